@@ -1,0 +1,15 @@
+pub mod WidthLaws
+pub mod RefusalLaws
+pub mod OutcomeLaws
+pub mod AnswerLaws
+pub mod CodeLaws
+pub mod WordLaws
+pub mod TabLaws
+pub mod CharLaws
+pub mod Net
+pub mod Pairs
+pub mod FieldLaws
+pub mod Turns
+pub mod ZeroLaws
+pub mod Permitted
+pub mod Decided

@@ -1,0 +1,67 @@
+-- One turn of the loops that pack and unpack a word, and what a second part adds to what a first part wrote.
+-- Assumes nothing.
+use mathlib.Core.Path.{_≡_, sym, ap, ap₂, _∙_}
+use mathlib.Core.List.{List, [], _∷_, _++_, map, map-append, append-nil, append-assoc}
+use Prim.Native.Nat.{ℕ, suc, _+_, _-_, _*_, _/_, _%_, _^_, _≤_, _<_}
+use native.Mathlib.Nat.{mul-suc, lt-of-lt-of-le, le-of-eq, mul-le-mul-left}
+use native.Mathlib.Numerals.{add-one}
+use native.Mathlib.Omega.{arith}
+use lib.Seq.{drop-cons, set-at, append-snoc, take-at, drop-at, take-all, drop-drop}
+use lib.ListN.{length, getD, take, drop, set, drop-of-length-le, length-drop, length-map}
+use lib.Pow.{pow-mono, shr-shr}
+use Rattle.codes.specs.Words.{word, charsOf}
+use Rattle.codes.proofs.WordLaws.{word-lt, Below-map, charsOf-snoc, length-charsOf}
+
+-- one turn of a loop that packs from the last letter down to the first, with room for n
+pub record Packed (w : ℕ) (f : ℕ → ℕ) (n : ℕ) (s : List ℕ) (i out : ℕ) : Type 0 where
+  pub out-is : out * 2 ^ w + f (getD s (i - 1) 0) ≡ word w (map f (drop (i - 1) s))
+  pub room : out * 2 ^ w + f (getD s (i - 1) 0) < 2 ^ (w * n)
+
+pub pack-turn : (w : ℕ) (f : ℕ → ℕ) → ((b : ℕ) → f b < 2 ^ w) → (n : ℕ) (s : List ℕ) (i out : ℕ) → 0 < i → i ≤ length s → length s ≤ n
+    → out ≡ word w (map f (drop i s)) → Packed w f n s i out
+unfolding word
+pack-turn w f h n s i out p l r e = record { out-is = is; room = rw is (lt-of-lt-of-le (word-lt w (map f (drop (i - 1) s)) (Below-map w f h (drop (i - 1) s))) (pow-mono (mul-le-mul-left w (simp (length-map, length-drop) (omega arith))))) }
+  where
+    back : suc (i - 1) ≡ i
+    back = omega arith
+
+    is : out * 2 ^ w + f (getD s (i - 1) 0) ≡ word w (map f (drop (i - 1) s))
+    is =
+        ap (λ (y : ℕ). y * 2 ^ w + f (getD s (i - 1) 0)) (e ∙ ap (λ (k : ℕ). word w (map f (drop k s))) (sym back))
+        ∙ ap (λ (l : List ℕ). word w (map f l)) (sym (drop-cons s (i - 1) 0 (omega arith)))
+
+-- one turn of a loop that writes the characters of x, each through f, from the front of a list
+pub record Unpacked (w : ℕ) (f : ℕ → ℕ) (x : ℕ) (old : List ℕ) (i : ℕ) (out : List ℕ) (rest : ℕ) : Type 0 where
+  pub rest-is : rest / 2 ^ w ≡ x / 2 ^ (w * (i + 1))
+  pub out-is : set out i (f (rest % 2 ^ w)) ≡ map f (charsOf w (i + 1) x) ++ drop (i + 1) old
+
+pub unpack-turn : (w : ℕ) (f : ℕ → ℕ) (x : ℕ) (old : List ℕ) (i : ℕ) (out : List ℕ) (rest : ℕ) → i < length old → rest ≡ x / 2 ^ (w * i)
+    → out ≡ map f (charsOf w i x) ++ drop i old → Unpacked w f x old i out rest
+unpack-turn w f x old i out rest l er eo = record { rest-is = rw (er, add-one i) (shr-shr x (w * i) w ∙ ap (λ (e : ℕ). x / 2 ^ e) (sym (mul-suc w i))); out-is = is }
+  where
+    done : List ℕ
+    done = map f (charsOf w i x)
+
+    a : ℕ
+    a = f (x / 2 ^ (w * i) % 2 ^ w)
+
+    is : set out i (f (rest % 2 ^ w)) ≡ map f (charsOf w (i + 1) x) ++ drop (i + 1) old
+    is =
+        ap₂ (λ (p : List ℕ) (r : ℕ). set p i (f (r % 2 ^ w))) (eo ∙ ap (λ (p : List ℕ). done ++ p) (drop-cons old i 0 l)) er
+        ∙ set-at done (getD old i 0) (drop (suc i) old) a i (length-map (charsOf w i x) f ∙ length-charsOf w i x)
+        ∙ sym (append-snoc done a (drop (suc i) old))
+        ∙ ap₂ (λ (p q : List ℕ). p ++ q) (sym (ap (map f) (charsOf-snoc w i x) ∙ map-append f (charsOf w i x) (x / 2 ^ (w * i) % 2 ^ w ∷ []))) (ap (λ (k : ℕ). drop k old) (sym (add-one i)))
+
+-- a is written at the front of old; b is then written at the front of the rest, which was lent from n on and is back
+pub written-on : (n m : ℕ) (a b old l r : List ℕ) → length a ≡ n → l ≡ a ++ drop n old → r ≡ b ++ drop m (take (length l - n) (drop n l))
+    → take n l ++ (r ++ drop (length l - n) (drop n l)) ≡ (a ++ b) ++ drop (n + m) old
+written-on n m a b old l r ea el er =
+    ap₂ (λ (p q : List ℕ). p ++ q) (ap (take n) el ∙ take-at a (drop n old) n ea)
+    (ap₂ (λ (p q : List ℕ). p ++ q) (er ∙ ap (λ (p : List ℕ). b ++ drop m p) (take-all (length l - n) (drop n l) short ∙ rest) ∙ ap (λ (p : List ℕ). b ++ p) (drop-drop m n old)) (drop-of-length-le (drop n l) short) ∙ append-nil (b ++ drop (n + m) old))
+    ∙ sym (append-assoc a b (drop (n + m) old))
+  where
+    short : length (drop n l) ≤ length l - n
+    short = le-of-eq (length-drop n l)
+
+    rest : drop n l ≡ drop n old
+    rest = ap (drop n) el ∙ drop-at a (drop n old) n ea

@@ -1,0 +1,23 @@
+-- Each letter is clear by computation, and any other byte is not. Assumes nothing.
+use mathlib.Core.Logic.{⊎-elim, inl, inr}
+use mathlib.Core.Path.{refl}
+use Rattle.codes.specs.Codes.{strict, flag}
+use Rattle.codes.proofs.CodeLaws.{strict-out}
+use Rattle.codes.proofs.letters.char_is_ambiguous.Statement.{statement}
+use Rattle.codes.proofs.letters.char_is_ambiguous.Tie as tie
+
+returns : tie.Need-returns
+unfolding strict flag
+returns c = ⊎-elim (λ e. rw e) (⊎-elim (λ e. rw e) (⊎-elim (λ e. rw e) (⊎-elim (λ e. rw e) (⊎-elim (λ e. rw e) (⊎-elim (λ e. rw e) (⊎-elim (λ e. rw e) (λ e. rw e))))))) (c .match .keys1)
+
+returns-2 : tie.Need-returns-2
+unfolding flag
+returns-2 c =
+    let n = c .match .rest .1 in
+    simp
+    (strict-out (c .before .args .byte)
+    (λ e. n (inl e), (λ e. n (inr (inl e)), (λ e. n (inr (inr (inr (inl e)))), (λ e. n (inr (inr (inl e))), tt))))
+    (λ e. n (inr (inr (inr (inr (inl e))))), (λ e. n (inr (inr (inr (inr (inr (inl e)))))), (λ e. n (inr (inr (inr (inr (inr (inr (inr e))))))), (λ e. n (inr (inr (inr (inr (inr (inr (inl e))))))), tt)))))
+
+pub char-is-ambiguous-spec : {M : Type 1} → statement M
+char-is-ambiguous-spec = tie.close (tie.spec returns returns-2)

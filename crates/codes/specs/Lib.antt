@@ -1,0 +1,6 @@
+pub mod Codes
+pub mod Refusals
+pub mod Words
+pub mod Answers
+pub mod Zeros
+pub mod Windows

@@ -1,0 +1,54 @@
+// The tests of the refusal table that more than one call makes.
+use crate::inner::counts::bytes_for;
+use crate::units::Chars;
+ghost use mathlib.Core.Path.{_≡_};
+ghost use Prim.Native.Nat.{_^_, _≤_};
+ghost use Rattle.codes.specs.Codes.{IsWidth};
+ghost use Rattle.codes.specs.Refusals.{tooLong, badStore, badView, badWord};
+
+// The most bytes of a view, a store's buffer or a stored form to be read.
+const MOST: usize = 0x1000_0000;
+
+// Whether n bytes are too many.
+pub fn too_long(n: usize) -> bool
+    ensures { λ r. ⌜ r ≡ tooLong n .0 ⌝ }
+{
+    MOST < n
+}
+
+// Whether a store of len characters and 48 bytes behind do not fit n bytes.
+pub fn bad_store(w: usize, n: usize, len: Chars) -> bool
+    requires { ⌜ IsWidth w ⌝ }
+    ensures { λ r. ⌜ r ≡ badStore w n (len .0) .0 ⌝ }
+{
+    if n < 48 {
+        return true;
+    }
+    n - 48 < bytes_for(w, len).count()
+}
+
+// Whether a view's characters and 48 bytes behind do not fit its n bytes.
+pub fn bad_view(w: usize, n: usize, offset: Chars, len: Chars) -> bool
+    requires { ⌜ IsWidth w ⌝ }
+    requires { ⌜ n ≤ 2 ^ 28 ⌝ }
+    ensures { λ r. ⌜ r ≡ badView w n (offset .0) (len .0) .0 ⌝ }
+{
+    if n < 48 {
+        return true;
+    }
+    let c = 8 / w;
+    let room = (n - 48) * c;
+    let o = offset.count();
+    if room < o {
+        return true;
+    }
+    room - o < len.count()
+}
+
+// Whether a word's length lies outside its range.
+pub fn bad_word(least: usize, most: usize, len: Chars) -> bool
+    ensures { λ r. ⌜ r ≡ badWord least most (len .0) .0 ⌝ }
+{
+    let k = len.count();
+    k < least || most < k
+}
