@@ -1,0 +1,15 @@
+pub mod PartLaws
+pub mod LoadLaws
+pub mod LetterLaws
+pub mod WriteLaws
+pub mod FlipLaws
+pub mod Held
+pub mod KeptCall
+pub mod MakeWalk
+pub mod GetWalk
+pub mod SliceWalk
+pub mod NormalWalk
+pub mod SliceLaws
+pub mod ReadWalk
+pub mod Viewed
+pub mod Decided

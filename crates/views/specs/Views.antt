@@ -1,0 +1,86 @@
+-- Views: bytes, an offset and a length, whose meaning is the list of their characters; what each call on one view answers.
+-- Assumes nothing.
+use mathlib.Core.List.{List, [], _∷_, _++_, map, reverse}
+use Prim.Native.Nat.{ℕ, _+_, _-_, _/_, _%_}
+use lib.ListN.{length, getD, take, drop, replicate}
+use Rattle.codes.specs.Answers.{halves}
+use Rattle.codes.specs.Codes.{per, up, chars, complement, letter}
+use Rattle.codes.specs.Refusals.{Test, Answer, answer, first, tooLong, badView, badIndex, badEnd, badStart, badWord, noRoom}
+use Rattle.codes.specs.Words.{word, packed}
+use Rattle.codes.specs.declared.refusals.Outcome.{Outcome}
+
+-- the refusals of a view of n bytes
+abbrev pub viewTests : ℕ → ℕ → ℕ → ℕ → List Test
+viewTests w n o len = tooLong n ∷ badView w n o len ∷ []
+
+-- the character at an index
+unfoldable pub got : ℕ → List ℕ → ℕ → ℕ → ℕ → Answer ℕ
+got w bs o len i = answer (first (viewTests w (length bs) o len ++ badIndex len i ∷ [])) (getD (chars w bs o len) i 0) 0
+
+-- a part that is handed back: its bytes, its offset and its length
+pub record Lent : Type 0 where
+  pub bytes : List ℕ
+  pub offset : ℕ
+  pub len : ℕ
+
+abbrev pub lent : List ℕ → ℕ → ℕ → Lent
+lent bs o len = record { bytes = bs; offset = o; len = len }
+
+-- the part from byte a up to byte e
+abbrev pub part : ℕ → ℕ → List ℕ → List ℕ
+part a e bs = take (e - a) (drop a bs)
+
+-- from byte offset / C8 to byte ceil((offset + length) / C8) + 48
+abbrev pub normalPart : ℕ → List ℕ → ℕ → ℕ → List ℕ
+normalPart w bs o len = part (o / per w) (up w (o + len) + 48) bs
+
+-- a view is made; an empty part where it is refused, as in the two below
+unfoldable pub made : ℕ → List ℕ → ℕ → ℕ → Answer Lent
+made w bs o len = answer (first (viewTests w (length bs) o len)) (lent bs o len) (lent [] 0 0)
+
+-- slicing keeps the buffer
+unfoldable pub sliced : ℕ → List ℕ → ℕ → ℕ → ℕ → ℕ → Answer Lent
+sliced w bs o len start end =
+    answer (first (viewTests w (length bs) o len ++ badEnd len end ∷ badStart start end ∷ [])) (lent bs (o + start) (end - start)) (lent [] 0 0)
+
+-- normalising hands back the part, with offset mod C8
+unfoldable pub normalised : ℕ → List ℕ → ℕ → ℕ → Answer Lent
+normalised w bs o len = answer (first (viewTests w (length bs) o len)) (lent (normalPart w bs o len) (o % per w) len) (lent [] 0 0)
+
+-- the character at an index of a slice
+unfoldable pub gotSliced : ℕ → List ℕ → ℕ → ℕ → ℕ → ℕ → ℕ → Answer ℕ
+gotSliced w bs o len start end i =
+    answer (first (viewTests w (length bs) o len ++ badEnd len end ∷ badStart start end ∷ badIndex (end - start) i ∷ [])) (getD (chars w bs o len) (start + i) 0) 0
+
+-- a view's word takes lengths up to 64 / w; in two halves, up to 128 / w
+unfoldable pub asU64 : ℕ → List ℕ → ℕ → ℕ → Answer ℕ
+asU64 w bs o len = answer (first (viewTests w (length bs) o len ++ badWord 0 (64 / w) len ∷ [])) (word w (chars w bs o len)) 0
+
+unfoldable pub asU128 : ℕ → List ℕ → ℕ → ℕ → Answer (ℕ × ℕ)
+asU128 w bs o len = answer (first (viewTests w (length bs) o len ++ badWord 0 (128 / w) len ∷ [])) (halves (word w (chars w bs o len))) (0, 0)
+
+-- characters in reverse, bases complemented
+abbrev pub flipped : ℕ → List ℕ → List ℕ
+flipped w cs = reverse (map (complement w) cs)
+
+-- its reversed word needs length 1 or more
+unfoldable pub flippedAsU64 : ℕ → List ℕ → ℕ → ℕ → Answer ℕ
+flippedAsU64 w bs o len = answer (first (viewTests w (length bs) o len ++ badWord 1 (64 / w) len ∷ [])) (word w (flipped w (chars w bs o len))) 0
+
+unfoldable pub flippedAsU128 : ℕ → List ℕ → ℕ → ℕ → Answer (ℕ × ℕ)
+flippedAsU128 w bs o len =
+    answer (first (viewTests w (length bs) o len ++ badWord 1 (128 / w) len ∷ [])) (halves (word w (flipped w (chars w bs o len)))) (0, 0)
+
+-- unpacking writes the capital letters of bases; later bytes stay
+unfoldable pub unpackOutcome : List ℕ → ℕ → ℕ → List ℕ → Outcome
+unpackOutcome bs o len out = first (viewTests 2 (length bs) o len ++ noRoom (length out) len ∷ [])
+
+unfoldable pub unpackedOver : List ℕ → ℕ → ℕ → List ℕ → List ℕ
+unpackedOver bs o len out = map letter (chars 2 bs o len) ++ drop len out
+
+-- `to_revcomp` writes ceil(length / C8) bytes, unused high bits zero, then 48 zeros; later bytes stay
+unfoldable pub flipOutcome : ℕ → List ℕ → ℕ → ℕ → List ℕ → Outcome
+flipOutcome w bs o len out = first (viewTests w (length bs) o len ++ noRoom (length out) (up w len + 48) ∷ [])
+
+unfoldable pub flippedOver : ℕ → List ℕ → ℕ → ℕ → List ℕ → List ℕ
+flippedOver w bs o len out = packed w (flipped w (chars w bs o len)) ++ (replicate 48 0 ++ drop (up w len + 48) out)
