@@ -1,0 +1,69 @@
+-- For each public call: any two permitted outcomes coincide.
+-- Assumes nothing.
+use denote.Ref.{now}
+use mathlib.Core.Path.{_≡_, sym, _∙_}
+use Rattle.codes.proofs.Permitted.{Decided, Settled}
+use Rattle.codes.proofs.RefusalLaws.{says-once}
+use Rattle.order.proofs.AnswerLaws.{compared-told, ordered-told, equality-told, found-told, least-told}
+use Rattle.order.proofs.bases.cmp_lcp.Kinds as bases-cmp-lcp·kinds
+use Rattle.order.proofs.bases.cmp_lcp.Reads as bases-cmp-lcp
+use Rattle.order.proofs.bases.cmp.Kinds as bases-cmp·kinds
+use Rattle.order.proofs.bases.cmp.Reads as bases-cmp
+use Rattle.order.proofs.bases.eq.Kinds as bases-eq·kinds
+use Rattle.order.proofs.bases.eq.Reads as bases-eq
+use Rattle.order.proofs.bases.find.Kinds as bases-find·kinds
+use Rattle.order.proofs.bases.find.Reads as bases-find
+use Rattle.order.proofs.bases.least_numbers.Kinds as bases-least-numbers·kinds
+use Rattle.order.proofs.bases.least_numbers.Reads as bases-least-numbers
+use Rattle.order.proofs.bases.least.Kinds as bases-least·kinds
+use Rattle.order.proofs.bases.least.Reads as bases-least
+use Rattle.order.proofs.flags.cmp_lcp.Kinds as flags-cmp-lcp·kinds
+use Rattle.order.proofs.flags.cmp_lcp.Reads as flags-cmp-lcp
+use Rattle.order.proofs.flags.cmp.Kinds as flags-cmp·kinds
+use Rattle.order.proofs.flags.cmp.Reads as flags-cmp
+use Rattle.order.proofs.flags.eq.Kinds as flags-eq·kinds
+use Rattle.order.proofs.flags.eq.Reads as flags-eq
+use Rattle.order.proofs.flags.find.Kinds as flags-find·kinds
+use Rattle.order.proofs.flags.find.Reads as flags-find
+use Rattle.order.proofs.flags.least_numbers.Kinds as flags-least-numbers·kinds
+use Rattle.order.proofs.flags.least_numbers.Reads as flags-least-numbers
+use Rattle.order.proofs.flags.least.Kinds as flags-least·kinds
+use Rattle.order.proofs.flags.least.Reads as flags-least
+
+pub bases-cmp-lcp-decided : Decided 2 bases-cmp-lcp·kinds.ps bases-cmp-lcp·kinds.r bases-cmp-lcp.Post
+bases-cmp-lcp-decided κs a x y s t p q = says-once compared-told x y (p ∙ sym q)
+
+pub bases-cmp-decided : Decided 2 bases-cmp·kinds.ps bases-cmp·kinds.r bases-cmp.Post
+bases-cmp-decided κs a x y s t p q = says-once ordered-told x y (p ∙ sym q)
+
+pub bases-eq-decided : Decided 2 bases-eq·kinds.ps bases-eq·kinds.r bases-eq.Post
+bases-eq-decided κs a x y s t p q = says-once equality-told x y (p ∙ sym q)
+
+pub bases-find-decided : Decided 2 bases-find·kinds.ps bases-find·kinds.r bases-find.Post
+bases-find-decided κs a x y s t p q = says-once found-told x y (p ∙ sym q)
+
+pub bases-least-numbers-decided : Decided 2 bases-least-numbers·kinds.ps bases-least-numbers·kinds.r bases-least-numbers.Post
+bases-least-numbers-decided κs a x y s t p q = says-once least-told x y (p ∙ sym q)
+
+-- the part is decided by its bytes
+pub bases-least-decided : (κs : _) (a : _) (x y : _) (s t : _) → bases-least.Post κs a x s → bases-least.Post κs a y t → now x ≡ now y
+bases-least-decided κs a x y s t p q = p ∙ sym q
+
+pub flags-cmp-lcp-decided : Decided 2 flags-cmp-lcp·kinds.ps flags-cmp-lcp·kinds.r flags-cmp-lcp.Post
+flags-cmp-lcp-decided κs a x y s t p q = says-once compared-told x y (p ∙ sym q)
+
+pub flags-cmp-decided : Decided 2 flags-cmp·kinds.ps flags-cmp·kinds.r flags-cmp.Post
+flags-cmp-decided κs a x y s t p q = says-once ordered-told x y (p ∙ sym q)
+
+pub flags-eq-decided : Decided 2 flags-eq·kinds.ps flags-eq·kinds.r flags-eq.Post
+flags-eq-decided κs a x y s t p q = says-once equality-told x y (p ∙ sym q)
+
+pub flags-find-decided : Decided 2 flags-find·kinds.ps flags-find·kinds.r flags-find.Post
+flags-find-decided κs a x y s t p q = says-once found-told x y (p ∙ sym q)
+
+pub flags-least-numbers-decided : Decided 2 flags-least-numbers·kinds.ps flags-least-numbers·kinds.r flags-least-numbers.Post
+flags-least-numbers-decided κs a x y s t p q = says-once least-told x y (p ∙ sym q)
+
+-- the part is decided by its bytes
+pub flags-least-decided : (κs : _) (a : _) (x y : _) (s t : _) → flags-least.Post κs a x s → flags-least.Post κs a y t → now x ≡ now y
+flags-least-decided κs a x y s t p q = p ∙ sym q

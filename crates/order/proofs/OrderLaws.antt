@@ -1,0 +1,110 @@
+-- The common length of two lists, and their order from it; what two views have that are not refused.
+-- Assumes nothing.
+use mathlib.Core.Bool.{Bool, true, false}
+use mathlib.Core.List.{List, [], _∷_}
+use mathlib.Core.Path.{_≡_, refl, sym, ap, ap₂, _∙_}
+use Prim.Native.Nat.{ℕ, zero, suc, _+_, _*_, _^_, _≤_, _<_, zero-le, suc-le-suc}
+use native.Mathlib.Decide.{ℕ-discrete}
+use native.Mathlib.Nat.{le-of-suc-le-suc}
+use native.Mathlib.Omega.{arith}
+use lib.Arith.{le-zero}
+use lib.Dec.{ltb, leb·suc-suc}
+use lib.ListN.{length, getD}
+use borrow.Author.Tests.{lt-ltb, le-ltb, eq-eqb, ne-eqb}
+use Rattle.codes.specs.Codes.{IsWidth, per, pick, charAt, chars}
+use Rattle.codes.specs.Refusals.{first}
+use Rattle.codes.specs.declared.refusals.Outcome.the-variants.{Done}
+use Rattle.codes.specs.declared.refusals.Refusal.the-variants.{TooLong, BadView}
+use Rattle.codes.proofs.CharLaws.{length-chars, getD-chars}
+use Rattle.codes.proofs.WidthLaws.{below-or}
+use Rattle.order.specs.Order.{pairOrder, isEqual, compare, common, pairTests}
+use Rattle.views.specs.Views.{viewTests}
+use Rattle.order.specs.declared.answers.Order.{Order}
+use Rattle.order.specs.declared.answers.Order.the-variants.{Less, Equal, Greater}
+use Rattle.views.proofs.LoadLaws.{Bits, view-bits}
+
+-- r characters are equal, and there is none behind them or it differs
+pub common-is : (xs ys : List ℕ) (r : ℕ) → r ≤ length xs → r ≤ length ys → ((j : ℕ) → j < r → getD xs j 0 ≡ getD ys j 0)
+    → (r < length xs → r < length ys → getD xs r 0 ≡ getD ys r 0 → ⊥) → r ≡ common xs ys
+unfolding common
+common-is [] ys r h l e d = le-zero h
+common-is (x ∷ xs) [] r h l e d = le-zero l
+common-is (x ∷ xs) (y ∷ ys) zero h l e d = rw (ne-eqb x y (d (suc-le-suc zero-le) (suc-le-suc zero-le)))
+common-is (x ∷ xs) (y ∷ ys) (suc r) h l e d =
+    rw (eq-eqb x y (e 0 (suc-le-suc zero-le)))
+    (ap suc (common-is xs ys r (le-of-suc-le-suc h) (le-of-suc-le-suc l) (λ j m. e (suc j) (suc-le-suc m)) (λ p q. d (suc-le-suc p) (suc-le-suc q))))
+
+-- the order by the characters behind the first k, where both lists have one; else by the lengths
+abbrev pub orderFrom : ℕ → List ℕ → List ℕ → Order
+orderFrom k xs ys = pick (ltb k (length xs)) (pick (ltb k (length ys)) (pick (ltb (getD xs k 0) (getD ys k 0)) Less Greater) Greater) (pick (ltb k (length ys)) Less Equal)
+
+pub compare-common : (xs ys : List ℕ) → compare xs ys ≡ orderFrom (common xs ys) xs ys
+unfolding compare common
+compare-common [] [] = refl
+compare-common [] (y ∷ ys) = rw (lt-ltb 0 (suc (length ys)) (suc-le-suc zero-le))
+compare-common (x ∷ xs) [] = rw (lt-ltb 0 (suc (length xs)) (suc-le-suc zero-le))
+compare-common (x ∷ xs) (y ∷ ys) =
+    elim (ℕ-discrete x y) [
+      | yes e ↦ rw (eq-eqb x y e, le-ltb x y (omega arith), le-ltb y x (omega arith)) (compare-common xs ys ∙ sym (simp leb·suc-suc))
+      | no n ↦ rw (ne-eqb x y n, lt-ltb 0 (suc (length xs)) (suc-le-suc zero-le), lt-ltb 0 (suc (length ys)) (suc-le-suc zero-le))
+          (below-or x y (λ h. rw (lt-ltb x y h)) (λ h. rw (le-ltb x y h, lt-ltb y x (omega arith))))
+    ]
+
+-- lists of different lengths are not equal
+pub compare-length : (xs ys : List ℕ) → compare xs ys ≡ Equal → length xs ≡ length ys
+unfolding compare
+compare-length [] [] e = refl
+compare-length [] (y ∷ ys) e = let z : _≡_ {A = ℕ} 0 1 = cc in absurd (omega arith)
+compare-length (x ∷ xs) [] e = let z : _≡_ {A = ℕ} 0 1 = cc in absurd (omega arith)
+compare-length (x ∷ xs) (y ∷ ys) e = ap suc (compare-length xs ys (behind (ltb x y) (ltb y x) (compare xs ys) e))
+  where
+    behind : (a b : Bool) (o : Order) → pick a Less (pick b Greater o) ≡ Equal → o ≡ Equal
+    behind true b o e = let z : _≡_ {A = ℕ} 0 1 = cc in absurd (omega arith)
+    behind false true o e = let z : _≡_ {A = ℕ} 0 1 = cc in absurd (omega arith)
+    behind false false o e = e
+
+pub unequal-lengths : (w : ℕ) (s : List ℕ) (o al : ℕ) (t : List ℕ) (o′ bl : ℕ) → (al ≡ bl → ⊥) → false ≡ isEqual w s o al t o′ bl (pairOrder w s o al t o′ bl)
+unequal-lengths w s o al t o′ bl n = other (pairOrder w s o al t o′ bl) (λ e. n (sym (length-chars w s o al) ∙ compare-length (chars w s o al) (chars w t o′ bl) e ∙ length-chars w t o′ bl))
+  where
+    other : (p : Order) → (p ≡ Equal → ⊥) → false ≡ isEqual w s o al t o′ bl p
+    other Less n = refl
+    other Equal n = absurd (n refl)
+    other Greater n = refl
+
+-- where two views are not refused, neither is
+pub pair-views : (w m ao al n bo bl : ℕ) → first (pairTests w m ao al n bo bl) ≡ Done → (first (viewTests w m ao al) ≡ Done) × (first (viewTests w n bo bl) ≡ Done)
+pair-views w m ao al n bo bl e = apart (ltb (2 ^ 28) m) (ltb (2 ^ 28) n) (ltb (m * per w) (ao + al + 48 * per w)) (ltb (n * per w) (bo + bl + 48 * per w)) e
+  where
+    apart : (a b c d : Bool) → first ((a, TooLong) ∷ (b, TooLong) ∷ (c, BadView) ∷ (d, BadView) ∷ []) ≡ Done
+        → (first ((a, TooLong) ∷ (c, BadView) ∷ []) ≡ Done) × (first ((b, TooLong) ∷ (d, BadView) ∷ []) ≡ Done)
+    apart true b c d e = let z : _≡_ {A = ℕ} 0 1 = cc in absurd (omega arith)
+    apart false true c d e = let z : _≡_ {A = ℕ} 0 1 = cc in absurd (omega arith)
+    apart false false true d e = let z : _≡_ {A = ℕ} 0 1 = cc in absurd (omega arith)
+    apart false false false true e = let z : _≡_ {A = ℕ} 0 1 = cc in absurd (omega arith)
+    apart false false false false e = (refl, refl)
+
+pub pair-bits : {w : ℕ} → IsWidth w → (m ao al n bo bl : ℕ) → first (pairTests w m ao al n bo bl) ≡ Done → Bits w m ao al × Bits w n bo bl
+pair-bits {w} W m ao al n bo bl e =
+    let v = pair-views w m ao al n bo bl e in
+    (view-bits W m ao al (v .0), view-bits W n bo bl (v .1))
+
+-- the order of two views of which k leading characters are equal and no more
+module _ (w : ℕ) (s : List ℕ) (o al : ℕ) (t : List ℕ) (o′ bl k : ℕ) (e : k ≡ common (chars w s o al) (chars w t o′ bl)) where
+  order-views : compare (chars w s o al) (chars w t o′ bl)
+      ≡ pick (ltb k al) (pick (ltb k bl) (pick (ltb (getD (chars w s o al) k 0) (getD (chars w t o′ bl) k 0)) Less Greater) Greater) (pick (ltb k bl) Less Equal)
+  order-views =
+      compare-common (chars w s o al) (chars w t o′ bl)
+      ∙ ap (λ (n : ℕ). orderFrom n (chars w s o al) (chars w t o′ bl)) (sym e)
+      ∙ ap₂ (λ (m n : ℕ). pick (ltb k m) (pick (ltb k n) (pick (ltb (getD (chars w s o al) k 0) (getD (chars w t o′ bl) k 0)) Less Greater) Greater) (pick (ltb k n) Less Equal)) (length-chars w s o al) (length-chars w t o′ bl)
+
+  pub order-behind : k < al → k < bl → compare (chars w s o al) (chars w t o′ bl) ≡ pick (ltb (charAt w s (o + k)) (charAt w t (o′ + k))) Less Greater
+  order-behind h l = order-views ∙ simp (lt-ltb k al h, lt-ltb k bl l, getD-chars w s o al k h, getD-chars w t o′ bl k l)
+
+  pub order-longer : k < al → bl ≤ k → compare (chars w s o al) (chars w t o′ bl) ≡ Greater
+  order-longer h l = order-views ∙ simp (lt-ltb k al h, le-ltb k bl l)
+
+  pub order-shorter : al ≤ k → k < bl → compare (chars w s o al) (chars w t o′ bl) ≡ Less
+  order-shorter h l = order-views ∙ simp (le-ltb k al h, lt-ltb k bl l)
+
+  pub order-same : al ≤ k → bl ≤ k → compare (chars w s o al) (chars w t o′ bl) ≡ Equal
+  order-same h l = order-views ∙ simp (le-ltb k al h, le-ltb k bl l)

@@ -1,0 +1,97 @@
+-- Order: comparing, finding and choosing among lists of characters; what each call on two views answers.
+-- Assumes nothing.
+use mathlib.Core.Bool.{Bool, true, false, _&&_}
+use mathlib.Core.List.{List, [], _∷_}
+use mathlib.Core.Option.{Option, some, none}
+use Prim.Native.Nat.{ℕ, zero, suc, _%_}
+use lib.Dec.{ltb, eqb}
+use lib.IntN.{ℤ, pos, negsuc}
+use lib.ListN.{length}
+use Rattle.codes.specs.Codes.{per, pick, chars}
+use Rattle.codes.specs.Refusals.{Test, Answer, answer, first, tooLong, badView, ifDone}
+use Rattle.codes.specs.declared.refusals.Outcome.{Outcome}
+use Rattle.views.specs.Views.{normalPart}
+use Rattle.order.specs.declared.answers.Order.{Order}
+use Rattle.order.specs.declared.answers.Order.the-variants.{Less, Equal, Greater}
+
+-- −1, 0 or 1
+abbrev pub orderNumber : Order → ℤ
+orderNumber Less = negsuc 0
+orderNumber Equal = pos 0
+orderNumber Greater = pos 1
+
+-- the first differing character decides, by code; else the shorter is first
+unfoldable pub compare : List ℕ → List ℕ → Order
+compare [] [] = Equal
+compare [] (y ∷ ys) = Less
+compare (x ∷ xs) [] = Greater
+compare (x ∷ xs) (y ∷ ys) = pick (ltb x y) Less (pick (ltb y x) Greater (compare xs ys))
+
+-- the count of equal leading characters
+unfoldable pub common : List ℕ → List ℕ → ℕ
+common [] ys = 0
+common (x ∷ xs) [] = 0
+common (x ∷ xs) (y ∷ ys) = pick (eqb x y) (suc (common xs ys)) 0
+
+-- whether a pattern stands at the front of a text
+unfoldable pub stands : List ℕ → List ℕ → Bool
+stands [] ys = true
+stands (x ∷ xs) [] = false
+stands (x ∷ xs) (y ∷ ys) = eqb x y && stands xs ys
+
+abbrev pub oneOn : Option ℕ → Option ℕ
+oneOn none = none
+oneOn (some p) = some (suc p)
+
+-- the least place where a pattern stands in a text
+unfoldable pub placeOf : List ℕ → List ℕ → Option ℕ
+placeOf xs [] = pick (stands xs []) (some 0) none
+placeOf xs (y ∷ ys) = pick (stands xs (y ∷ ys)) (some 0) (oneOn (placeOf xs ys))
+
+-- the refusals of two views, of m and n bytes
+abbrev pub pairTests : ℕ → ℕ → ℕ → ℕ → ℕ → ℕ → ℕ → List Test
+pairTests w m ao al n bo bl = tooLong m ∷ tooLong n ∷ badView w m ao al ∷ badView w n bo bl ∷ []
+
+module _ (w : ℕ) (xs : List ℕ) (ao al : ℕ) (bs : List ℕ) (bo bl : ℕ) where
+  abbrev pub pairOutcome : Outcome
+  pairOutcome = first (pairTests w (length xs) ao al (length bs) bo bl)
+
+  abbrev pub pairOrder : Order
+  pairOrder = compare (chars w xs ao al) (chars w bs bo bl)
+
+  -- the order, and the count of equal leading characters
+  unfoldable pub compared : Answer (ℤ × ℕ)
+  compared = answer pairOutcome (orderNumber pairOrder, common (chars w xs ao al) (chars w bs bo bl)) (pos 0, 0)
+
+  unfoldable pub ordered : Answer ℤ
+  ordered = answer pairOutcome (orderNumber pairOrder) (pos 0)
+
+  -- equal views have equal characters
+  abbrev pub isEqual : Order → Bool
+  isEqual Less = false
+  isEqual Equal = true
+  isEqual Greater = false
+
+  unfoldable pub equalled : Answer Bool
+  equalled = answer pairOutcome (isEqual pairOrder) false
+
+  -- the pattern is the first view, the text the second: whether it stands there, and the least place, 0 where it is absent
+  abbrev pub placed : Option ℕ → Bool × ℕ
+  placed none = (false, 0)
+  placed (some p) = (true, p)
+
+  unfoldable pub found : Answer (Bool × ℕ)
+  found = answer pairOutcome (placed (placeOf (chars w xs ao al) (chars w bs bo bl))) (false, 0)
+
+  -- of two views the one that comes first; at a tie, the first
+  abbrev pub isSecond : Order → Bool
+  isSecond Less = false
+  isSecond Equal = false
+  isSecond Greater = true
+
+  -- its normalised part, and that part's offset and length
+  unfoldable pub leastBytes : List ℕ
+  leastBytes = ifDone pairOutcome (pick (isSecond pairOrder) (normalPart w bs bo bl) (normalPart w xs ao al)) []
+
+  unfoldable pub leastNumbers : Answer (ℕ × ℕ)
+  leastNumbers = answer pairOutcome (pick (isSecond pairOrder) (bo % per w, bl) (ao % per w, al)) (0, 0)

@@ -1,0 +1,55 @@
+// Two views of flags: every call at width 1.
+use crate::answers::Compared;
+use crate::answers::Equality;
+use crate::answers::Found;
+use crate::answers::Least;
+use crate::answers::Ordered;
+use crate::inner::compare;
+use crate::inner::find::find_views;
+use crate::inner::least;
+use codes::units::Chars;
+ghost use mathlib.Core.Path.{_≡_};
+ghost use Rattle.order.specs.Answers.{comparedSays, orderedSays, equalitySays, foundSays, leastSays};
+ghost use Rattle.order.specs.Order.{compared, ordered, equalled, found, leastBytes, leastNumbers};
+
+// The order of two views, and the count of their equal leading characters.
+pub fn cmp_lcp(a: &[u8], ao: Chars, al: Chars, b: &[u8], bo: Chars, bl: Chars) -> Compared
+    ensures { λ r. ⌜ comparedSays r ≡ compared 1 (now (a .entry)) (ao .0) (al .0) (now (b .entry)) (bo .0) (bl .0) ⌝ }
+{
+    compare::cmp_lcp(1, a, ao, al, b, bo, bl)
+}
+
+// The order of two views.
+pub fn cmp(a: &[u8], ao: Chars, al: Chars, b: &[u8], bo: Chars, bl: Chars) -> Ordered
+    ensures { λ r. ⌜ orderedSays r ≡ ordered 1 (now (a .entry)) (ao .0) (al .0) (now (b .entry)) (bo .0) (bl .0) ⌝ }
+{
+    compare::cmp(1, a, ao, al, b, bo, bl)
+}
+
+// Whether two views have the same characters.
+pub fn eq(a: &[u8], ao: Chars, al: Chars, b: &[u8], bo: Chars, bl: Chars) -> Equality
+    ensures { λ r. ⌜ equalitySays r ≡ equalled 1 (now (a .entry)) (ao .0) (al .0) (now (b .entry)) (bo .0) (bl .0) ⌝ }
+{
+    compare::eq(1, a, ao, al, b, bo, bl)
+}
+
+// The least place of a pattern in a text.
+pub fn find(pattern: &[u8], po: Chars, pl: Chars, text: &[u8], to: Chars, tl: Chars) -> Found
+    ensures { λ r. ⌜ foundSays r ≡ found 1 (now (pattern .entry)) (po .0) (pl .0) (now (text .entry)) (to .0) (tl .0) ⌝ }
+{
+    find_views(1, pattern, po, pl, text, to, tl)
+}
+
+// The normalised part of whichever view comes first, at a tie the first; empty where a view is refused.
+pub fn least<'a>(a: &'a [u8], ao: Chars, al: Chars, b: &'a [u8], bo: Chars, bl: Chars) -> &'a [u8]
+    ensures { λ r. ⌜ now r ≡ leastBytes 1 (now (a .entry)) (ao .0) (al .0) (now (b .entry)) (bo .0) (bl .0) ⌝ }
+{
+    least::least(1, a, ao, al, b, bo, bl)
+}
+
+// The offset and the length in the part that `least` hands back.
+pub fn least_numbers(a: &[u8], ao: Chars, al: Chars, b: &[u8], bo: Chars, bl: Chars) -> Least
+    ensures { λ r. ⌜ leastSays r ≡ leastNumbers 1 (now (a .entry)) (ao .0) (al .0) (now (b .entry)) (bo .0) (bl .0) ⌝ }
+{
+    least::least_numbers(1, a, ao, al, b, bo, bl)
+}

@@ -1,0 +1,5 @@
+// What the public calls are made of: functions over the width and over plain slices. Only these ask anything of their callers.
+pub mod compare;
+pub mod find;
+pub mod least;
+pub mod pairs;

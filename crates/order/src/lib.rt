@@ -1,0 +1,5 @@
+// Two views: compared, searched one in the other, chosen between; at width 2 in `bases`, at width 1 in `flags`.
+pub mod answers;
+pub mod bases;
+pub mod flags;
+pub mod inner;
