@@ -1,0 +1,57 @@
+-- For each public call: any two permitted outcomes coincide.
+-- Assumes nothing.
+use denote.Ref.{now}
+use mathlib.Core.Path.{_≡_, sym, _∙_}
+use Rattle.codes.proofs.Permitted.{Decided, Settled}
+use Rattle.codes.proofs.RefusalLaws.{says-once}
+use Rattle.stores.proofs.AnswerLaws.{pushed-told, kept-told}
+use Rattle.stores.proofs.bases.clear.Kinds as bases-clear·kinds
+use Rattle.stores.proofs.bases.clear.Reads as bases-clear
+use Rattle.stores.proofs.bases.push_ascii.Kinds as bases-push-ascii·kinds
+use Rattle.stores.proofs.bases.push_ascii.Reads as bases-push-ascii
+use Rattle.stores.proofs.bases.push_seq.Kinds as bases-push-seq·kinds
+use Rattle.stores.proofs.bases.push_seq.Reads as bases-push-seq
+use Rattle.stores.proofs.bases.overwrite.Kinds as bases-overwrite·kinds
+use Rattle.stores.proofs.bases.overwrite.Reads as bases-overwrite
+use Rattle.stores.proofs.bases.cut.Kinds as bases-cut·kinds
+use Rattle.stores.proofs.bases.cut.Reads as bases-cut
+use Rattle.stores.proofs.flags.clear.Kinds as flags-clear·kinds
+use Rattle.stores.proofs.flags.clear.Reads as flags-clear
+use Rattle.stores.proofs.flags.push_ascii.Kinds as flags-push-ascii·kinds
+use Rattle.stores.proofs.flags.push_ascii.Reads as flags-push-ascii
+use Rattle.stores.proofs.flags.push_seq.Kinds as flags-push-seq·kinds
+use Rattle.stores.proofs.flags.push_seq.Reads as flags-push-seq
+use Rattle.stores.proofs.flags.overwrite.Kinds as flags-overwrite·kinds
+use Rattle.stores.proofs.flags.overwrite.Reads as flags-overwrite
+use Rattle.stores.proofs.flags.cut.Kinds as flags-cut·kinds
+use Rattle.stores.proofs.flags.cut.Reads as flags-cut
+
+pub bases-clear-decided : Settled 1 bases-clear·kinds.ps bases-clear·kinds.r bases-clear.Post (λ κs s. now (s .0))
+bases-clear-decided κs a x y s t p q = (says-once kept-told x y (p .0 ∙ sym (q .0)), p .1 ∙ sym (q .1))
+
+pub bases-push-ascii-decided : Settled 2 bases-push-ascii·kinds.ps bases-push-ascii·kinds.r bases-push-ascii.Post (λ κs s. now (s .0))
+bases-push-ascii-decided κs a x y s t p q = (says-once pushed-told x y (p .0 ∙ sym (q .0)), p .1 ∙ sym (q .1))
+
+pub bases-push-seq-decided : Settled 2 bases-push-seq·kinds.ps bases-push-seq·kinds.r bases-push-seq.Post (λ κs s. now (s .0))
+bases-push-seq-decided κs a x y s t p q = (says-once pushed-told x y (p .0 ∙ sym (q .0)), p .1 ∙ sym (q .1))
+
+pub bases-overwrite-decided : Settled 2 bases-overwrite·kinds.ps bases-overwrite·kinds.r bases-overwrite.Post (λ κs s. now (s .0))
+bases-overwrite-decided κs a x y s t p q = (says-once kept-told x y (p .0 ∙ sym (q .0)), p .1 ∙ sym (q .1))
+
+pub bases-cut-decided : Settled 1 bases-cut·kinds.ps bases-cut·kinds.r bases-cut.Post (λ κs s. now (s .0))
+bases-cut-decided κs a x y s t p q = (says-once kept-told x y (p .0 ∙ sym (q .0)), p .1 ∙ sym (q .1))
+
+pub flags-clear-decided : Settled 1 flags-clear·kinds.ps flags-clear·kinds.r flags-clear.Post (λ κs s. now (s .0))
+flags-clear-decided κs a x y s t p q = (says-once kept-told x y (p .0 ∙ sym (q .0)), p .1 ∙ sym (q .1))
+
+pub flags-push-ascii-decided : Settled 2 flags-push-ascii·kinds.ps flags-push-ascii·kinds.r flags-push-ascii.Post (λ κs s. now (s .0))
+flags-push-ascii-decided κs a x y s t p q = (says-once pushed-told x y (p .0 ∙ sym (q .0)), p .1 ∙ sym (q .1))
+
+pub flags-push-seq-decided : Settled 2 flags-push-seq·kinds.ps flags-push-seq·kinds.r flags-push-seq.Post (λ κs s. now (s .0))
+flags-push-seq-decided κs a x y s t p q = (says-once pushed-told x y (p .0 ∙ sym (q .0)), p .1 ∙ sym (q .1))
+
+pub flags-overwrite-decided : Settled 2 flags-overwrite·kinds.ps flags-overwrite·kinds.r flags-overwrite.Post (λ κs s. now (s .0))
+flags-overwrite-decided κs a x y s t p q = (says-once kept-told x y (p .0 ∙ sym (q .0)), p .1 ∙ sym (q .1))
+
+pub flags-cut-decided : Settled 1 flags-cut·kinds.ps flags-cut·kinds.r flags-cut.Post (λ κs s. now (s .0))
+flags-cut-decided κs a x y s t p q = (says-once kept-told x y (p .0 ∙ sym (q .0)), p .1 ∙ sym (q .1))

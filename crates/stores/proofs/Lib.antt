@@ -1,0 +1,16 @@
+pub mod RunLaws
+pub mod WholeLaws
+pub mod SpliceLaws
+pub mod FreshLaws
+pub mod RoomLaws
+pub mod SeqLaws
+pub mod WrittenLaws
+pub mod CallLaws
+pub mod HoldLaws
+pub mod HistoryLaws
+pub mod History
+pub mod KeptLaws
+pub mod Written
+pub mod WindowsKept
+pub mod AnswerLaws
+pub mod Decided

@@ -1,0 +1,5 @@
+pub mod Stores
+pub mod History
+pub mod Answers
+pub mod Runs
+pub mod Changes
