@@ -1,0 +1,13 @@
+pub mod ShapeLaws
+pub mod LaneLaws
+pub mod WriteLaws
+pub mod TurnLaws
+pub mod FillLaws
+pub mod WindowLaws
+pub mod RunLaws
+pub mod WindowFillLaws
+pub mod TotalLaws
+pub mod Stepping
+pub mod Viewed
+pub mod AnswerLaws
+pub mod Decided

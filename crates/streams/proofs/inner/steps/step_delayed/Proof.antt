@@ -1,0 +1,29 @@
+-- The lanes are those of the outcome. Assumes nothing.
+use mathlib.Core.Path.{sym, _∙_}
+use Rattle.streams.proofs.LaneLaws.{step-plain}
+use borrow.Author.Needs.{needs}
+use Rattle.streams.proofs.inner.steps.step_delayed.Statement.{statement}
+use Rattle.streams.proofs.inner.steps.step_delayed.Tie as tie
+
+new-requires : tie.Need-new-requires
+new-requires c κs = search needs
+
+step-outcome-requires : tie.Need-step-outcome-requires
+step-outcome-requires c κs = search needs
+
+step-lanes-requires : tie.Need-step-lanes-requires
+step-lanes-requires c κs =
+    let s = c .before .before .before in (s .pre, λ e. step-plain (s .args .w) (s .args .bytes .now) (s .args .offset .0) (s .args .len .0) (s .args .context .0) (s .args .factor) (s .args .delay .0) (s .args .delay .0) (s .args .j) (sym (c .step-outcome .ensures) ∙ e))
+
+step-lanes-requires-2 : tie.Need-step-lanes-requires-2
+step-lanes-requires-2 c κs =
+    let s = c .before .before .before .before in (s .pre, λ e. step-plain (s .args .w) (s .args .bytes .now) (s .args .offset .0) (s .args .len .0) (s .args .context .0) (s .args .factor) (s .args .delay .0) (s .args .delay .0) (s .args .j) (sym (c .before .step-outcome .ensures) ∙ e))
+
+returns : tie.Need-returns
+returns c =
+    (c .before .before .step-outcome .ensures, (rw (← c .before .before .before .new .ensures) (c .before .step-lanes .ensures), c .step-lanes2 .ensures))
+
+pub step-delayed-spec : {M : Type 1} → statement M
+step-delayed-spec =
+    tie.close
+    (tie.spec new-requires step-outcome-requires step-lanes-requires step-lanes-requires-2 returns)

@@ -1,0 +1,21 @@
+-- A buffer with a run of new entries, and a word that holds a turn of characters.
+-- Assumes nothing.
+use mathlib.Core.List.{List}
+use mathlib.Core.Path.{_≡_}
+use Prim.Native.Nat.{ℕ, _+_, _-_, _*_, _/_, _%_, _^_, _≤_, _<_}
+use lib.ListN.{length, getD}
+
+-- x with entry q given by f from entry a up to entry b
+pub record Written (f : ℕ → ℕ) (a b : ℕ) (x y : List ℕ) : Type 0 where
+  pub long : length y ≡ length x
+  pub below : (q : ℕ) → q < a → getD y q 0 ≡ getD x q 0
+  pub new : (q : ℕ) → a ≤ q → q < b → getD y q 0 ≡ f q
+  pub above : (q : ℕ) → b ≤ q → getD y q 0 ≡ getD x q 0
+
+-- x holds the next 64 / w characters of a list from place i on, the first lowest
+abbrev pub Holds : ℕ → List ℕ → ℕ → ℕ → Type 0
+Holds w cs i x = (t : ℕ) → t < 64 / w → x / 2 ^ (w * t) % 2 ^ w ≡ getD cs (i + t) 0
+
+-- entry q, the entries from e on being eight words' characters, a step at a time
+abbrev pub turned : ℕ → List ℕ → ℕ → ℕ → ℕ
+turned w words e q = getD words ((q - e) % 8) 0 / 2 ^ (w * ((q - e) / 8)) % 2 ^ w

@@ -1,0 +1,175 @@
+// Streams of flags: width 1.
+use crate::answers::Filled;
+use crate::answers::Ran;
+use crate::answers::Shape;
+use crate::answers::Stepped;
+use crate::answers::SteppedOnce;
+use crate::answers::SteppedTwice;
+use crate::answers::Windows;
+use crate::inner::fills;
+use crate::inner::running;
+use crate::inner::shapes;
+use crate::inner::steps;
+use crate::inner::windows;
+use codes::units::Chars;
+ghost use mathlib.Core.List.{[], _∷_};
+ghost use mathlib.Core.Path.{_≡_};
+ghost use lib.ListN.{length};
+ghost use Rattle.streams.specs.Answers.{shapeSays, filledSays, running};
+ghost use Rattle.streams.specs.Streams.{shaped, fillOutcome, fillAnswer, fillAfter, stepOutcome, stepLanes, windowsAnswer, windowsAfter, runOutcome, runAnswers, runState};
+
+// Lane length, padding and steps.
+pub fn shape(len: Chars, context: Chars, factor: usize) -> Shape
+    ensures { λ r. ⌜ shapeSays r ≡ shaped 1 (len .0) (context .0) factor ⌝ }
+{
+    shapes::shape(1, len, context, factor)
+}
+
+// Writes step j, lane l to entry 8 j + l, for all steps.
+pub fn fill(
+    bytes: &[u8],
+    offset: Chars,
+    len: Chars,
+    context: Chars,
+    factor: usize,
+    out: &mut [u32],
+) -> Filled
+    ensures answer { λ r. ⌜ filledSays r ≡ fillAnswer 1 (now (bytes .entry)) (offset .0) (len .0) (context .0) factor 0 0 (length (now (out .entry)) ∷ []) ⌝ }
+    ensures out { λ _. ⌜ now (out .exit) ≡ fillAfter 1 (now (bytes .entry)) (offset .0) (len .0) (context .0) factor 0 (fillOutcome 1 (now (bytes .entry)) (offset .0) (len .0) (context .0) factor 0 0 (length (now (out .entry)) ∷ [])) (now (out .entry)) ⌝ }
+{
+    fills::fill(1, bytes, offset, len, context, factor, out)
+}
+
+// The same, and a buffer for a delay.
+pub fn fill_delayed(
+    bytes: &[u8],
+    offset: Chars,
+    len: Chars,
+    context: Chars,
+    factor: usize,
+    delay: Chars,
+    out: &mut [u32],
+    delayed: &mut [u32],
+) -> Filled
+    ensures answer { λ r. ⌜ filledSays r ≡ fillAnswer 1 (now (bytes .entry)) (offset .0) (len .0) (context .0) factor (delay .0) (delay .0) (length (now (out .entry)) ∷ length (now (delayed .entry)) ∷ []) ⌝ }
+    ensures out { λ _. ⌜ now (out .exit) ≡ fillAfter 1 (now (bytes .entry)) (offset .0) (len .0) (context .0) factor 0 (fillOutcome 1 (now (bytes .entry)) (offset .0) (len .0) (context .0) factor (delay .0) (delay .0) (length (now (out .entry)) ∷ length (now (delayed .entry)) ∷ [])) (now (out .entry)) ⌝ }
+    ensures delayed { λ _. ⌜ now (delayed .exit) ≡ fillAfter 1 (now (bytes .entry)) (offset .0) (len .0) (context .0) factor (delay .0) (fillOutcome 1 (now (bytes .entry)) (offset .0) (len .0) (context .0) factor (delay .0) (delay .0) (length (now (out .entry)) ∷ length (now (delayed .entry)) ∷ [])) (now (delayed .entry)) ⌝ }
+{
+    fills::fill_delayed(1, bytes, offset, len, context, factor, delay, out, delayed)
+}
+
+// The same, and a buffer for each of two delays.
+pub fn fill_delayed_2(
+    bytes: &[u8],
+    offset: Chars,
+    len: Chars,
+    context: Chars,
+    factor: usize,
+    first: Chars,
+    second: Chars,
+    out: &mut [u32],
+    out1: &mut [u32],
+    out2: &mut [u32],
+) -> Filled
+    ensures answer { λ r. ⌜ filledSays r ≡ fillAnswer 1 (now (bytes .entry)) (offset .0) (len .0) (context .0) factor (first .0) (second .0) (length (now (out .entry)) ∷ length (now (out1 .entry)) ∷ length (now (out2 .entry)) ∷ []) ⌝ }
+    ensures out { λ _. ⌜ now (out .exit) ≡ fillAfter 1 (now (bytes .entry)) (offset .0) (len .0) (context .0) factor 0 (fillOutcome 1 (now (bytes .entry)) (offset .0) (len .0) (context .0) factor (first .0) (second .0) (length (now (out .entry)) ∷ length (now (out1 .entry)) ∷ length (now (out2 .entry)) ∷ [])) (now (out .entry)) ⌝ }
+    ensures out1 { λ _. ⌜ now (out1 .exit) ≡ fillAfter 1 (now (bytes .entry)) (offset .0) (len .0) (context .0) factor (first .0) (fillOutcome 1 (now (bytes .entry)) (offset .0) (len .0) (context .0) factor (first .0) (second .0) (length (now (out .entry)) ∷ length (now (out1 .entry)) ∷ length (now (out2 .entry)) ∷ [])) (now (out1 .entry)) ⌝ }
+    ensures out2 { λ _. ⌜ now (out2 .exit) ≡ fillAfter 1 (now (bytes .entry)) (offset .0) (len .0) (context .0) factor (second .0) (fillOutcome 1 (now (bytes .entry)) (offset .0) (len .0) (context .0) factor (first .0) (second .0) (length (now (out .entry)) ∷ length (now (out1 .entry)) ∷ length (now (out2 .entry)) ∷ [])) (now (out2 .entry)) ⌝ }
+{
+    fills::fill_delayed_2(
+        1,
+        bytes,
+        offset,
+        len,
+        context,
+        factor,
+        first,
+        second,
+        out,
+        out1,
+        out2,
+    )
+}
+
+// The eight lanes of step j.
+pub fn step(
+    bytes: &[u8],
+    offset: Chars,
+    len: Chars,
+    context: Chars,
+    factor: usize,
+    j: usize,
+) -> Stepped
+    ensures outcome { λ r. ⌜ r .outcome ≡ stepOutcome 1 (now (bytes .entry)) (offset .0) (len .0) (context .0) factor 0 0 j ⌝ }
+    ensures lanes { λ r. ⌜ r .lanes ≡ stepLanes 1 (now (bytes .entry)) (offset .0) (len .0) (context .0) factor 0 j (r .outcome) ⌝ }
+{
+    steps::step(1, bytes, offset, len, context, factor, j)
+}
+
+// The same, and the lanes of a delay.
+pub fn step_delayed(
+    bytes: &[u8],
+    offset: Chars,
+    len: Chars,
+    context: Chars,
+    factor: usize,
+    delay: Chars,
+    j: usize,
+) -> SteppedOnce
+    ensures outcome { λ r. ⌜ r .outcome ≡ stepOutcome 1 (now (bytes .entry)) (offset .0) (len .0) (context .0) factor (delay .0) (delay .0) j ⌝ }
+    ensures lanes { λ r. ⌜ r .lanes ≡ stepLanes 1 (now (bytes .entry)) (offset .0) (len .0) (context .0) factor 0 j (r .outcome) ⌝ }
+    ensures delayed { λ r. ⌜ r .delayed ≡ stepLanes 1 (now (bytes .entry)) (offset .0) (len .0) (context .0) factor (delay .0) j (r .outcome) ⌝ }
+{
+    steps::step_delayed(1, bytes, offset, len, context, factor, delay, j)
+}
+
+// The same, and the lanes of two delays.
+pub fn step_delayed_2(
+    bytes: &[u8],
+    offset: Chars,
+    len: Chars,
+    context: Chars,
+    factor: usize,
+    first: Chars,
+    second: Chars,
+    j: usize,
+) -> SteppedTwice
+    ensures outcome { λ r. ⌜ r .outcome ≡ stepOutcome 1 (now (bytes .entry)) (offset .0) (len .0) (context .0) factor (first .0) (second .0) j ⌝ }
+    ensures lanes { λ r. ⌜ r .lanes ≡ stepLanes 1 (now (bytes .entry)) (offset .0) (len .0) (context .0) factor 0 j (r .outcome) ⌝ }
+    ensures first { λ r. ⌜ r .first ≡ stepLanes 1 (now (bytes .entry)) (offset .0) (len .0) (context .0) factor (first .0) j (r .outcome) ⌝ }
+    ensures second { λ r. ⌜ r .second ≡ stepLanes 1 (now (bytes .entry)) (offset .0) (len .0) (context .0) factor (second .0) j (r .outcome) ⌝ }
+{
+    steps::step_delayed_2(1, bytes, offset, len, context, factor, first, second, j)
+}
+
+// Writes whether a window of k flags, ending at step j of lane l, holds a set one, to entry 8 (j - skip) + l, from step `skip` on.
+pub fn fill_windows(
+    bytes: &[u8],
+    offset: Chars,
+    len: Chars,
+    context: Chars,
+    k: Chars,
+    skip: usize,
+    out: &mut [u32],
+) -> Filled
+    ensures answer { λ r. ⌜ filledSays r ≡ windowsAnswer (now (bytes .entry)) (offset .0) (len .0) (context .0) (k .0) skip (length (now (out .entry))) ⌝ }
+    ensures out { λ _. ⌜ now (out .exit) ≡ windowsAfter (now (bytes .entry)) (offset .0) (len .0) (context .0) (k .0) skip (now (out .entry)) ⌝ }
+{
+    windows::fill_windows(bytes, offset, len, context, k, skip, out)
+}
+
+// The windows of the step that the state names, and the next state.
+pub fn step_windows(
+    bytes: &[u8],
+    offset: Chars,
+    len: Chars,
+    context: Chars,
+    k: Chars,
+    state: Windows,
+) -> Ran
+    ensures outcome { λ r. ⌜ r .outcome ≡ runOutcome (now (bytes .entry)) (offset .0) (len .0) (context .0) (k .0) (running state) ⌝ }
+    ensures answers { λ r. ⌜ r .answers ≡ runAnswers (now (bytes .entry)) (offset .0) (len .0) (context .0) (k .0) (running state) ⌝ }
+    ensures state { λ r. ⌜ running (r .state) ≡ runState (now (bytes .entry)) (offset .0) (len .0) (context .0) (k .0) (running state) ⌝ }
+{
+    running::step_windows(bytes, offset, len, context, k, state)
+}
