@@ -1,0 +1,72 @@
+-- From state to state: what each piece of the input leads to, and what the report says of it.
+-- Assumes nothing.
+use mathlib.Core.List.{List, [], _∷_, _++_, append-assoc}
+use mathlib.Core.Path.{_≡_, refl, sym, ap, _∙_}
+use Prim.Native.Nat.{ℕ, suc, _+_, _<_}
+use native.Mathlib.Numerals.{add-one}
+use native.Mathlib.Omega.{arith}
+use lib.ListN.{length, take, getD, length-take}
+use lib.Seq.{getD-take, take-suc}
+use Rattle.fasta.specs.Report.{row, refusedText}
+use Rattle.fasta.specs.Rest.{State, start, header, fresh, within, ended, rest, Leads}
+use Rattle.fasta.specs.Reads.{LineEnd}
+use Rattle.fasta.proofs.RestLaws.{Plain, start-blank, start-header, start-letter, header-run, header-end, within-run, within-end, fresh-header, fresh-letters}
+
+pub leads-none : (s : State) → Leads s [] [] s
+leads-none s = record { says = λ more. refl; counts = omega arith }
+
+pub leads-blank : Leads start (10 ∷ []) [] start
+leads-blank = record { says = start-blank; counts = omega arith }
+
+pub leads-open : Leads start (62 ∷ []) [] (header 0)
+leads-open = record { says = start-header; counts = omega arith }
+
+pub leads-refused : (b : ℕ) → (b ≡ 10 → ⊥) → (b ≡ 62 → ⊥) → Leads start (b ∷ []) (refusedText ++ (10 ∷ [])) ended
+leads-refused b h l = record { says = λ more. start-letter b more h l; counts = omega arith }
+
+pub leads-ended : (xs : List ℕ) → Leads ended xs [] ended
+unfolding rest
+leads-ended xs = record { says = λ more. refl; counts = omega arith }
+
+pub leads-next : (i : ℕ) (ls : List ℕ) → Leads (fresh i ls) (62 ∷ []) (row (suc i) ls) (header (suc i))
+leads-next i ls = record { says = fresh-header i ls; counts = omega arith }
+
+module _ (i : ℕ) (xs : List ℕ) (p : Plain xs) where
+  pub leads-header : Leads (header i) xs [] (header i)
+  leads-header = record { says = λ more. header-run i xs more p; counts = omega arith }
+
+  pub leads-header-end : Leads (header i) (xs ++ (10 ∷ [])) [] (fresh i [])
+  leads-header-end =
+      record {
+        says = λ more. ap (rest (header i)) (append-assoc xs (10 ∷ []) more) ∙ header-run i xs (10 ∷ more) p ∙ header-end i more;
+        counts = omega arith;
+      }
+
+  pub leads-within : (ls : List ℕ) → Leads (within i ls) xs [] (within i (ls ++ xs))
+  leads-within ls = record { says = λ more. within-run i ls xs more p; counts = omega arith }
+
+  pub leads-within-end : (ls : List ℕ) → Leads (within i ls) (xs ++ (10 ∷ [])) [] (fresh i (ls ++ xs))
+  leads-within-end ls =
+      record {
+        says = λ more. ap (rest (within i ls)) (append-assoc xs (10 ∷ []) more) ∙ within-run i ls xs (10 ∷ more) p ∙ within-end i (ls ++ xs) more;
+        counts = omega arith;
+      }
+
+-- a line that opens no record
+pub leads-letters : (i : ℕ) (ls xs written : List ℕ) (s′ : State) → 0 < length xs → (getD xs 0 0 ≡ 62 → ⊥) → Leads (within i ls) xs written s′ → Leads (fresh i ls) xs written s′
+leads-letters i ls [] written s′ h n l = absurd (omega arith)
+leads-letters i ls (b ∷ xs) written s′ h n l = record { says = λ more. fresh-letters i b ls (xs ++ more) n ∙ l .says more; counts = l .counts }
+
+-- the bytes before an end of line, and with it
+module _ (part : List ℕ) (r : ℕ) (h : LineEnd part r) where
+  pub line-plain : Plain (take r part)
+  line-plain k l e =
+      let m : k < r = omega (arith, length-take r part) in
+      h .before k m (sym (getD-take r part k 0 m) ∙ e)
+
+  pub line-whole : r < length part → take (r + 1) part ≡ take r part ++ (10 ∷ [])
+  line-whole l = ap (λ (k : ℕ). take k part) (add-one r) ∙ take-suc part r 0 l ∙ ap (λ (b : ℕ). take r part ++ (b ∷ [])) (h .found l)
+
+pub take-one : (part : List ℕ) → 0 < length part → take 1 part ≡ getD part 0 0 ∷ []
+take-one [] h = absurd (omega arith)
+take-one (b ∷ part) h = refl

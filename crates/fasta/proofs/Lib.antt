@@ -1,0 +1,13 @@
+pub mod Listing
+pub mod RestLaws
+pub mod Chunked
+pub mod SetsLaws
+pub mod DecimalLaws
+pub mod StrandLaws
+pub mod RowLaws
+pub mod LetterLaws
+pub mod PushLaws
+pub mod HoldLaws
+pub mod LeadLaws
+pub mod StepLaws
+pub mod FinishLaws

@@ -1,0 +1,92 @@
+-- Bases against their reverse complement: both views are right, and the order that comparing them answers is theirs.
+-- Assumes nothing.
+use mathlib.Core.List.{List, _++_, map}
+use mathlib.Core.Path.{_≡_, sym, ap, ap₂, _∙_}
+use Prim.Native.Nat.{ℕ, _+_, _*_, _/_, _%_, _^_, _≤_}
+use native.Mathlib.Nat.{div-lt-iff-lt-mul}
+use native.Mathlib.Omega.{arith}
+use borrow.Author.Tests.{le-ltb}
+use lib.IntN.{pos}
+use lib.ListN.{length, getD, length-map, length-reverse, List·getD-append}
+use Rattle.codes.specs.Codes.{IsWidth, per, up, charAt, chars, complement}
+use Rattle.codes.specs.Refusals.{answer, ifDone}
+use Rattle.codes.specs.Words.{packed}
+use Rattle.codes.specs.declared.refusals.Outcome.{Outcome}
+use Rattle.codes.specs.declared.refusals.Outcome.the-variants.{Done, Refused}
+use Rattle.codes.specs.declared.refusals.Refusal.{Refusal}
+use Rattle.codes.proofs.CharLaws.{length-chars, chars-ext, chars-fit, length-pack, unpacked}
+use Rattle.codes.proofs.CodeLaws.{complement-lt}
+use Rattle.codes.proofs.RefusalLaws.{says-once}
+use Rattle.codes.proofs.WidthLaws.{width-2, per-pos}
+use Rattle.codes.proofs.WordLaws.{Below, Below-reverse, Below-through}
+use Rattle.order.proofs.AnswerLaws.{ordered-told}
+use Rattle.order.specs.Answers.{orderedSays}
+use Rattle.order.specs.Order.{compare, orderNumber, pairOutcome, ordered}
+use Rattle.views.specs.Views.{flipped, flipOutcome, flippedOver}
+use Rattle.order.specs.declared.answers.Order.{Order}
+use Rattle.order.specs.declared.answers.Ordered.{Ordered}
+use Rattle.order.specs.declared.answers.Ordered.the-variants as Ordered
+
+-- a view of the front of a buffer
+chars-front : {w : ℕ} → IsWidth w → (xs ys : List ℕ) (n : ℕ) → n ≤ length xs * per w → chars w (xs ++ ys) 0 n ≡ chars w xs 0 n
+unfolding charAt
+chars-front {w} W xs ys n h =
+    chars-ext w (xs ++ ys) xs 0 0 n
+    (λ i l. ap (λ (b : ℕ). b / 2 ^ (w * ((0 + i) % per w)) % 2 ^ w) (List·getD-append xs ys 0 ((0 + i) / per w) (div-lt-iff-lt-mul (per-pos W) .1 (omega arith))))
+
+module _ (bs other : List ℕ) (n : ℕ) (h : n ≤ 16384) (lb : length bs ≡ 4144) (lo : length other ≡ 4144) where
+  abbrev cs : List ℕ
+  cs = chars 2 bs 0 n
+
+  long : length (flipped 2 cs) ≡ n
+  long = length-reverse (map (complement 2) cs) ∙ length-map cs (complement 2) ∙ length-chars 2 bs 0 n
+
+  fits : Below 2 (flipped 2 cs)
+  fits = Below-reverse 2 (map (complement 2) cs) (Below-through 2 (complement 2) complement-lt cs (chars-fit 2 bs 0 n))
+
+  flip-done : flipOutcome 2 bs 0 n other ≡ Done
+  unfolding flipOutcome
+  flip-done =
+      rw (le-ltb (2 ^ 28) (length bs) (omega arith), le-ltb (length bs * 4) (0 + n + 48 * 4) (omega arith), le-ltb (length other) (up 2 n + 48) (omega arith))
+
+  packed-long : length (packed 2 (flipped 2 cs)) ≡ up 2 n
+  unfolding packed
+  packed-long = length-pack 2 (up 2 (length (flipped 2 cs))) (λ i. getD (flipped 2 cs) i 0) ∙ ap (up 2) long
+
+  flipped-chars : chars 2 (flippedOver 2 bs 0 n other) 0 n ≡ flipped 2 cs
+  unfolding flippedOver
+  flipped-chars =
+      chars-front width-2 (packed 2 (flipped 2 cs)) _ n (omega (arith, packed-long))
+      ∙ ap (chars 2 (packed 2 (flipped 2 cs)) 0) (sym long)
+      ∙ unpacked width-2 (flipped 2 cs) fits
+
+  pair-done : (other′ : List ℕ) → length other′ ≡ length other → pairOutcome 2 bs 0 n other′ 0 n ≡ Done
+  pair-done other′ l =
+      rw (
+        le-ltb (2 ^ 28) (length bs) (omega arith),
+        le-ltb (2 ^ 28) (length other′) (omega arith),
+        le-ltb (length bs * 4) (0 + n + 48 * 4) (omega arith),
+        le-ltb (length other′ * 4) (0 + n + 48 * 4) (omega arith),
+      )
+
+  -- z is the offset, m the length
+  pub strand-order : (r : Ordered) (o : Outcome) (other′ : List ℕ) (z m : ℕ) → z ≡ 0 → m ≡ n → o ≡ flipOutcome 2 bs z m other
+      → other′ ≡ ifDone o (flippedOver 2 bs z m other) other → length other′ ≡ length other → orderedSays r ≡ ordered 2 bs z m other′ z m
+      → r ≡ Ordered.Is (compare cs (flipped 2 cs))
+  unfolding ordered
+  strand-order r o other′ z m ez em e w l s =
+      let d : o ≡ Done = e ∙ ap₂ (λ (a b : ℕ). flipOutcome 2 bs a b other) ez em ∙ flip-done in
+      let f : other′ ≡ flippedOver 2 bs 0 n other = w ∙ ap₂ (λ (a b : ℕ). ifDone o (flippedOver 2 bs a b other) other) ez em ∙ ap (λ (x : Outcome). ifDone x (flippedOver 2 bs 0 n other) other) d in
+      says-once ordered-told r (Ordered.Is (compare cs (flipped 2 cs)))
+      (s
+      ∙ ap₂ (λ (a b : ℕ). ordered 2 bs a b other′ a b) ez em
+      ∙ ap₂ (λ (x : Outcome) (y : List ℕ). answer x (orderNumber (compare cs y)) (pos 0)) (pair-done other′ l) (ap (λ (x : List ℕ). chars 2 x 0 n) f ∙ flipped-chars))
+
+-- the order in an answer, and none in a refusal
+pub is-order : (r : Ordered) (p o : Order) → r ≡ Ordered.Is p → r ≡ Ordered.Is o → p ≡ o
+is-order r p o e f = cc
+
+pub never-refused : (r : Ordered) (x : Refusal) (o : Order) → r ≡ Ordered.Refused x → r ≡ Ordered.Is o → ⊥
+never-refused r x o e f =
+    let z : _≡_ {A = ℕ} 0 1 = cc in
+    omega arith

@@ -1,0 +1,117 @@
+-- Each state's law. Assumes nothing.
+use mathlib.Core.Path.{sym, subst}
+use Rattle.fasta.specs.Reads.{Finishes}
+use Rattle.fasta.specs.declared.reader.Reader.{Reader}
+use Rattle.fasta.proofs.FinishLaws.{finishes-none, finishes-start, finishes-header, finishes-fresh, finishes-within, finishes-ended}
+use borrow.Author.Needs.{needs}
+use Rattle.fasta.proofs.reader.finish.Statement.{statement}
+use Rattle.fasta.proofs.reader.finish.Tie as tie
+
+returns : tie.Need-returns
+returns c =
+    let a = c .before .before .args in
+    finishes-none (a .reader) (a .bases .now) (a .out .now) (c .if1 .taken)
+
+enum-told : tie.Need-enum-told
+enum-told c = search needs
+
+put-total-requires : tie.Need-put-total-requires
+put-total-requires c κs = search needs
+
+enum-known-reader : tie.Need-enum-known-reader
+enum-known-reader c = search needs
+
+close-requires : tie.Need-close-requires
+close-requires c κs = search needs
+
+enum-known-reader-2 : tie.Need-enum-known-reader-2
+enum-known-reader-2 c = search needs
+
+close-requires-2 : tie.Need-close-requires-2
+close-requires-2 c κs = search needs
+
+enum-known-reader-3 : tie.Need-enum-known-reader-3
+enum-known-reader-3 c = search needs
+
+close-requires-3 : tie.Need-close-requires-3
+close-requires-3 c κs = search needs
+
+enum-told-2 : tie.Need-enum-told-2
+enum-told-2 c = search needs
+
+same-length : tie.Need-same-length
+same-length c = search needs
+
+returns-2 : tie.Need-returns-2
+returns-2 c =
+    let k = c .before .before in
+    let r = k .before .before in
+    let e = r .before .before in
+    let a = e .before .before .args in
+    subst (λ (x : Reader). Finishes x (a .bases .now) (a .out .now) (k .put-total .result) (k .put-total .last .1 .0)) (sym (r .enum-told .given .1))
+    (finishes-start (a .bases .now) (a .out .now) (k .put-total .last .1 .0) (k .put-total .result) (e .if1 .left) (k .put-total .ensures))
+
+same-length-2 : tie.Need-same-length-2
+same-length-2 c = search needs
+
+returns-3 : tie.Need-returns-3
+returns-3 c =
+    let k = c .before .before in
+    let r = k .before .before .before .before in
+    let e = r .before .before in
+    let a = e .before .before .args in
+    subst (λ (x : Reader). Finishes x (a .bases .now) (a .out .now) (k .close .result) (k .close .last .1 .1 .1 .0)) (sym (r .reader .given .1))
+    (finishes-header (a .bases .now) (a .out .now) (k .close .last .1 .1 .1 .0) (k .close .result) (e .if1 .left) _ (k .close .ensures))
+
+same-length-3 : tie.Need-same-length-3
+same-length-3 c = search needs
+
+returns-4 : tie.Need-returns-4
+returns-4 c =
+    let k = c .before .before in
+    let r = k .before .before .before .before in
+    let e = r .before .before in
+    let a = e .before .before .args in
+    subst (λ (x : Reader). Finishes x (a .bases .now) (a .out .now) (k .close2 .result) (k .close2 .last .1 .1 .1 .0)) (sym (r .reader2 .given .1))
+    (finishes-fresh (a .bases .now) (a .out .now) (k .close2 .last .1 .1 .1 .0) (k .close2 .result) (e .if1 .left) _ (k .close2 .ensures))
+
+same-length-4 : tie.Need-same-length-4
+same-length-4 c = search needs
+
+returns-5 : tie.Need-returns-5
+returns-5 c =
+    let k = c .before .before in
+    let r = k .before .before .before .before in
+    let e = r .before .before in
+    let a = e .before .before .args in
+    subst (λ (x : Reader). Finishes x (a .bases .now) (a .out .now) (k .close3 .result) (k .close3 .last .1 .1 .1 .0)) (sym (r .reader3 .given .1))
+    (finishes-within (a .bases .now) (a .out .now) (k .close3 .last .1 .1 .1 .0) (k .close3 .result) (e .if1 .left) _ (k .close3 .ensures))
+
+returns-6 : tie.Need-returns-6
+returns-6 c =
+    let a = c .before .before .before .before .args in
+    subst (λ (x : Reader). Finishes x (a .bases .now) (a .out .now) 0 (a .out .now)) (sym (c .enum-told2 .given .1)) (finishes-ended (a .bases .now) (a .out .now))
+
+pub finish-spec : {M : Type 1} → statement M
+finish-spec =
+    tie.close
+    (tie.spec
+    returns
+    enum-told
+    put-total-requires
+    enum-known-reader
+    close-requires
+    enum-known-reader-2
+    close-requires-2
+    enum-known-reader-3
+    close-requires-3
+    enum-told-2
+    same-length
+    returns-2
+    same-length-2
+    returns-3
+    same-length-3
+    returns-4
+    same-length-4
+    returns-5
+    returns-6)

@@ -1,0 +1,53 @@
+-- The definition's two cases. Assumes nothing.
+use mathlib.Core.Path.{ap, _∙_}
+use Rattle.fasta.specs.Rows.{columns}
+use Rattle.fasta.proofs.RowLaws.{body-long, body-short, put-as}
+use borrow.Author.Needs.{needs}
+use Rattle.fasta.proofs.rows.put_body.Statement.{statement}
+use Rattle.fasta.proofs.rows.put_body.Tie as tie
+
+slice-aggregate-put-text : tie.Need-slice-aggregate-put-text
+slice-aggregate-put-text c = search needs
+
+put-text-requires : tie.Need-put-text-requires
+put-text-requires c κs = search needs
+
+same-length : tie.Need-same-length
+same-length c = search needs
+
+returns : tie.Need-returns
+returns c =
+    let k = c .before .before in
+    let t = k .before .before .before in
+    let a = t .before .before .args .kept in
+    put-as (body-long (a .count) (a .ambiguous) _ (t .if1 .taken)) (k .put-text .ensures)
+
+strand-requires : tie.Need-strand-requires
+strand-requires c κs = search needs
+
+put-columns-requires : tie.Need-put-columns-requires
+put-columns-requires c κs = search needs
+
+same-length-2 : tie.Need-same-length-2
+same-length-2 c = search needs
+
+returns-2 : tie.Need-returns-2
+returns-2 c =
+    let k = c .before .before in
+    let t = k .before .before in
+    let e = t .before .before in
+    let a = e .before .before .args .kept in
+    put-as (ap (columns (a .count) (a .ambiguous)) (t .strand .ensures) ∙ body-short (a .count) (a .ambiguous) _ (e .if1 .left)) (k .put-columns .ensures)
+
+pub put-body-spec : {M : Type 1} → statement M
+put-body-spec =
+    tie.close
+    (tie.spec
+    slice-aggregate-put-text
+    put-text-requires
+    same-length
+    returns
+    strand-requires
+    put-columns-requires
+    same-length-2
+    returns-2)

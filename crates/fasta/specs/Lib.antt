@@ -1,0 +1,4 @@
+pub mod Report
+pub mod Rest
+pub mod Rows
+pub mod Reads

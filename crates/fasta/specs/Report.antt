@@ -1,0 +1,95 @@
+-- The program: FASTA in, a table of records out. The report is defined on the whole input.
+-- Assumes nothing.
+use mathlib.Core.Bool.{Bool, true, false}
+use mathlib.Core.List.{List, [], _∷_, _++_, map}
+use Prim.Native.Nat.{ℕ, zero, suc, _+_, _/_, _%_}
+use lib.Dec.{ltb, eqb}
+use lib.ListN.{length}
+use Rattle.codes.specs.Codes.{pick, lossy, flag}
+use Rattle.order.specs.Order.{compare}
+use Rattle.views.specs.Views.{flipped}
+use Rattle.order.specs.declared.answers.Order.{Order}
+use Rattle.order.specs.declared.answers.Order.the-variants.{Less, Equal, Greater}
+
+-- a number in decimal, in at most k digits; a tab is byte 9, LF byte 10
+unfoldable pub decimalIn : ℕ → ℕ → List ℕ
+decimalIn zero n = []
+decimalIn (suc k) n = pick (ltb n 10) ((48 + n) ∷ []) (decimalIn k (n / 10) ++ ((48 + n % 10) ∷ []))
+
+abbrev pub decimal : ℕ → List ℕ
+decimal = decimalIn 20
+
+-- "record", "bases", "ambiguous", "strand", tabs between them
+abbrev pub heading : List ℕ
+heading =
+    114 ∷ 101 ∷ 99 ∷ 111 ∷ 114 ∷ 100 ∷ 9
+    ∷ 98 ∷ 97 ∷ 115 ∷ 101 ∷ 115 ∷ 9
+    ∷ 97 ∷ 109 ∷ 98 ∷ 105 ∷ 103 ∷ 117 ∷ 111 ∷ 117 ∷ 115 ∷ 9
+    ∷ 115 ∷ 116 ∷ 114 ∷ 97 ∷ 110 ∷ 100 ∷ 10 ∷ []
+
+-- "refused", "too-long", "total"
+abbrev pub refusedText : List ℕ
+refusedText = 114 ∷ 101 ∷ 102 ∷ 117 ∷ 115 ∷ 101 ∷ 100 ∷ []
+
+abbrev pub tooLongText : List ℕ
+tooLongText = 116 ∷ 111 ∷ 111 ∷ 45 ∷ 108 ∷ 111 ∷ 110 ∷ 103 ∷ []
+
+abbrev pub totalText : List ℕ
+totalText = 116 ∷ 111 ∷ 116 ∷ 97 ∷ 108 ∷ []
+
+-- one byte more at the front of the first line
+abbrev pub longer : ℕ → List (List ℕ) → List (List ℕ)
+longer b [] = (b ∷ []) ∷ []
+longer b (l ∷ ls) = (b ∷ l) ∷ ls
+
+-- lines end at LF or at the end of the input
+unfoldable pub lines : List ℕ → List (List ℕ)
+lines [] = []
+lines (b ∷ bs) = pick (eqb b 10) ([] ∷ lines bs) (longer b (lines bs))
+
+-- a line starting `>` opens a record
+abbrev pub isHeader : List ℕ → Bool
+isHeader [] = false
+isHeader (b ∷ bs) = eqb b 62
+
+-- the letters of each record: those of the one begun, then those of the lines
+unfoldable pub records : List ℕ → List (List ℕ) → List (List ℕ)
+records begun [] = begun ∷ []
+records begun (l ∷ ls) = pick (isHeader l) (begun ∷ records [] ls) (records (begun ++ l) ls)
+
+-- how many letters are ambiguous
+unfoldable pub ambiguous : List ℕ → ℕ
+ambiguous [] = 0
+ambiguous (x ∷ xs) = flag x + ambiguous xs
+
+-- the record's bases against their reverse complement: `<`, `=` or `>`
+abbrev pub sign : Order → ℕ
+sign Less = 60
+sign Equal = 61
+sign Greater = 62
+
+unfoldable pub strand : List ℕ → ℕ
+strand letters = sign (compare (map lossy letters) (flipped 2 (map lossy letters)))
+
+-- a record over 16,384 letters gives its number and `too-long`
+unfoldable pub row : ℕ → List ℕ → List ℕ
+unfolding ambiguous strand
+row i letters =
+    decimal i ++ (9 ∷ (pick (ltb 16384 (length letters)) tooLongText (decimal (length letters) ++ (9 ∷ (decimal (ambiguous letters) ++ (9 ∷ strand letters ∷ [])))) ++ (10 ∷ [])))
+
+-- the rows of the records after the first i, and the total
+unfoldable pub rows : ℕ → List (List ℕ) → List ℕ
+unfolding row
+rows i [] = totalText ++ (9 ∷ (decimal i ++ (10 ∷ [])))
+rows i (r ∷ rs) = row (suc i) r ++ rows (suc i) rs
+
+-- letters before any header give `refused`, and reading ends; a blank line before it holds none
+unfoldable pub table : List (List ℕ) → List ℕ
+unfolding records rows
+table [] = rows 0 []
+table ([] ∷ ls) = table ls
+table ((b ∷ l) ∷ ls) = pick (eqb b 62) (rows 0 (records [] ls)) (refusedText ++ (10 ∷ []))
+
+unfoldable pub report : List ℕ → List ℕ
+unfolding lines table
+report input = heading ++ table (lines input)

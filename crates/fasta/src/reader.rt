@@ -1,0 +1,120 @@
+// The record reader: a state by value, a start, a step and a finish.
+use crate::rows::put_text;
+use crate::rows::put_total;
+use crate::states::at_line;
+use crate::states::begin;
+use crate::states::close;
+use crate::states::in_header;
+use crate::states::in_line;
+ghost use Rattle.fasta.specs.Reads.{Begins, Steps, Finishes};
+
+// The bytes of a buffer for 16,384 bases, and those of a buffer for what a call writes.
+pub const BASES: usize = 4144;
+
+pub const OUT: usize = 96;
+
+// The open record: the records before it, its letters (16,385 for any number above 16,384), and the ambiguous ones among them.
+pub struct Record {
+    pub number: u64,
+    pub count: usize,
+    pub ambiguous: u64,
+}
+
+// Where the bytes read so far end: before any header, in a header line after so many records, in a record at the start of
+// a line or within one, or after letters that no header came before.
+pub enum Reader {
+    Start,
+    Header(u64),
+    Fresh(Record),
+    Within(Record),
+    Ended,
+}
+
+// The reader after a step, the bytes of the part that it took, and those that it wrote.
+pub struct Stepped {
+    pub reader: Reader,
+    pub used: usize,
+    pub wrote: usize,
+}
+
+// The reader before any byte; writes the heading. Nothing is written to a buffer of fewer than OUT bytes, here or below.
+pub fn start(out: &mut [u8]) -> Stepped
+    ensures { λ r. ⌜ Begins (now (out .entry)) r (now (out .exit)) ⌝ }
+{
+    if out.len() < OUT {
+        return Stepped {
+            reader: Reader::Start,
+            used: 0,
+            wrote: 0,
+        };
+    }
+    let wrote = put_text(b"record\tbases\tambiguous\tstrand\n", out, 0);
+    Stepped {
+        reader: Reader::Start,
+        used: 0,
+        wrote,
+    }
+}
+
+// Reads on in a part of the input: the rest of a line, or the `>` of a header; none of it where `out` is too short. The bases of
+// the open record stand in `bases`; `other` is lent for their reverse complement.
+pub fn step(
+    reader: Reader,
+    part: &[u8],
+    bases: &mut [u8; BASES],
+    other: &mut [u8; BASES],
+    out: &mut [u8],
+) -> Stepped
+    ensures { λ r. ⌜ Steps reader (now (part .entry)) (now (bases .entry)) (now (out .entry)) r (now (bases .exit)) (now (out .exit)) ⌝ }
+{
+    if part.len() == 0 {
+        return Stepped {
+            reader,
+            used: 0,
+            wrote: 0,
+        };
+    }
+    if out.len() < OUT {
+        return Stepped {
+            reader,
+            used: 0,
+            wrote: 0,
+        };
+    }
+    match reader {
+        Reader::Start => begin(part, out),
+        Reader::Header(number) => in_header(number, part),
+        Reader::Fresh(kept) => at_line(kept, part, bases, other, out),
+        Reader::Within(kept) => in_line(kept, part, bases),
+        Reader::Ended => Stepped {
+            reader: Reader::Ended,
+            used: part.len(),
+            wrote: 0,
+        },
+    }
+}
+
+// The end of the input: writes the last row and the total, and answers how many bytes.
+pub fn finish(reader: Reader, bases: &[u8; BASES], other: &mut [u8; BASES], out: &mut [u8]) -> usize
+    ensures { λ r. ⌜ Finishes reader (now (bases .entry)) (now (out .entry)) r (now (out .exit)) ⌝ }
+{
+    if out.len() < OUT {
+        return 0;
+    }
+    match reader {
+        Reader::Start => put_total(0, out, 0),
+        Reader::Header(number) => close(
+            Record {
+                number,
+                count: 0,
+                ambiguous: 0,
+            },
+            bases,
+            other,
+            out,
+        ),
+        Reader::Fresh(kept) => close(kept, bases, other, out),
+        Reader::Within(kept) => close(kept, bases, other, out),
+        Reader::Ended => 0,
+    }
+}
