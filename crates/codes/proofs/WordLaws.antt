@@ -140,14 +140,6 @@ charsOf-pair w n m lo hi h =
     charsOf-add w n m (hi * 2 ^ (w * n) + lo)
     ∙ ap₂ (λ (p q : List ℕ). p ++ q) (sym (charsOf-mod w n (hi * 2 ^ (w * n) + lo)) ∙ ap (charsOf w n) (low hi (w * n) h)) (ap (charsOf w m) (high hi (w * n) h))
 
--- m characters at a time
-pub flip-group : (w : ℕ) (f : ℕ → ℕ) (m n x : ℕ) → flip (w * m) (flip w f m) n x ≡ flip w f (m * n) x
-flip-group w f m zero x = flip-none (w * m) (flip w f m) x ∙ sym (ap (λ (k : ℕ). flip w f k x) (mul-zero m) ∙ flip-none w f x)
-flip-group w f m (suc n) x =
-    flip-step (w * m) (flip w f m) n x
-    ∙ ap₂ (λ (p q : ℕ). p * 2 ^ (w * m) + q) (flip-group w f m n x) (flip-mod w f m (x / 2 ^ (w * m * n)) ∙ ap (λ (e : ℕ). flip w f m (x / 2 ^ e)) (mul-assoc w m n))
-    ∙ sym (ap (λ (k : ℕ). flip w f k x) (mul-suc m n) ∙ flip-add w f (m * n) m x)
-
 -- the flip of a list's word is the word of the list in reverse
 pub flip-word : (w : ℕ) (f : ℕ → ℕ) (s : List ℕ) → Below w s → flip w f (length s) (word w s) ≡ word w (reverse (map f s))
 unfolding flip
@@ -160,13 +152,6 @@ Below-reverse w (c ∷ s) h = subst (Below w) (sym (reverse-cons c s)) (Below-ap
 pub Below-through : (w : ℕ) (f : ℕ → ℕ) → ((c : ℕ) → c < 2 ^ w → f c < 2 ^ w) → (s : List ℕ) → Below w s → Below w (map f s)
 Below-through w f h [] k = tt
 Below-through w f h (c ∷ s) k = (h c (k .0), Below-through w f h s (k .1))
-
--- the characters of a flip
-pub charsOf-flip : (w : ℕ) (f : ℕ → ℕ) → ((c : ℕ) → c < 2 ^ w → f c < 2 ^ w) → (k x : ℕ) → charsOf w k (flip w f k x) ≡ reverse (map f (charsOf w k x))
-unfolding flip
-charsOf-flip w f h k x =
-    ap (λ (n : ℕ). charsOf w n (word w (reverse (map f (charsOf w k x))))) (sym (length-reverse (map f (charsOf w k x)) ∙ length-map (charsOf w k x) f ∙ length-charsOf w k x))
-    ∙ charsOf-word w (reverse (map f (charsOf w k x))) (Below-reverse w (map f (charsOf w k x)) (Below-through w f h (charsOf w k x) (charsOf-fit w k x)))
 
 pub charsOf-take : (w k n x : ℕ) → k ≤ n → take k (charsOf w n x) ≡ charsOf w k x
 charsOf-take w k n x l =
