@@ -1,15 +1,12 @@
 -- From state to state: what each piece of the input leads to, and what the report says of it.
 -- Assumes nothing.
 use mathlib.Core.List.{List, [], _∷_, _++_, append-assoc}
-use mathlib.Core.Path.{_≡_, refl, sym, ap, _∙_}
-use Prim.Native.Nat.{ℕ, suc, _+_, _<_}
-use native.Mathlib.Numerals.{add-one}
+use mathlib.Core.Path.{_≡_, refl, ap, _∙_}
+use Prim.Native.Nat.{ℕ, suc, _<_}
 use native.Mathlib.Omega.{arith}
-use lib.ListN.{length, take, getD, length-take}
-use lib.Seq.{getD-take, take-suc}
+use lib.ListN.{length, getD}
 use Rattle.fasta.specs.Report.{row, refusedText}
-use Rattle.fasta.specs.Rest.{State, start, header, fresh, within, ended, rest, Leads}
-use Rattle.fasta.specs.Reads.{LineEnd}
+use Rattle.fasta.proofs.Rest.{State, start, header, fresh, within, ended, rest, Leads}
 use Rattle.fasta.proofs.RestLaws.{Plain, start-blank, start-header, start-letter, header-run, header-end, within-run, within-end, fresh-header, fresh-letters}
 
 pub leads-none : (s : State) → Leads s [] [] s
@@ -56,17 +53,3 @@ module _ (i : ℕ) (xs : List ℕ) (p : Plain xs) where
 pub leads-letters : (i : ℕ) (ls xs written : List ℕ) (s′ : State) → 0 < length xs → (getD xs 0 0 ≡ 62 → ⊥) → Leads (within i ls) xs written s′ → Leads (fresh i ls) xs written s′
 leads-letters i ls [] written s′ h n l = absurd (omega arith)
 leads-letters i ls (b ∷ xs) written s′ h n l = record { says = λ more. fresh-letters i b ls (xs ++ more) n ∙ l .says more; counts = l .counts }
-
--- the bytes before an end of line, and with it
-module _ (part : List ℕ) (r : ℕ) (h : LineEnd part r) where
-  pub line-plain : Plain (take r part)
-  line-plain k l e =
-      let m : k < r = omega (arith, length-take r part) in
-      h .before k m (sym (getD-take r part k 0 m) ∙ e)
-
-  pub line-whole : r < length part → take (r + 1) part ≡ take r part ++ (10 ∷ [])
-  line-whole l = ap (λ (k : ℕ). take k part) (add-one r) ∙ take-suc part r 0 l ∙ ap (λ (b : ℕ). take r part ++ (b ∷ [])) (h .found l)
-
-pub take-one : (part : List ℕ) → 0 < length part → take 1 part ≡ getD part 0 0 ∷ []
-take-one [] h = absurd (omega arith)
-take-one (b ∷ part) h = refl

@@ -9,7 +9,7 @@ use borrow.Author.Tests.{ne-eqb, eqb-true, eqb-false}
 use lib.Dec.{eqb}
 use lib.ListN.{length, getD}
 use Rattle.fasta.specs.Report.{longer, lines, isHeader, records, rows, row, table, refusedText}
-use Rattle.fasta.specs.Rest.{start, header, fresh, within, ended, firstLine, laterLines, rest}
+use Rattle.fasta.proofs.Rest.{start, header, fresh, within, ended, firstLine, laterLines, rest}
 
 -- no byte is LF
 abbrev pub Plain : List ℕ → Type 0

@@ -7,8 +7,11 @@ use native.Mathlib.Omega.{arith}
 use borrow.Author.Tests.{lt-ltb, le-ltb}
 use lib.ListN.{length, length-append}
 use Rattle.codes.proofs.WidthLaws.{below-or}
+use Rattle.views.specs.Views.{flippedOver}
 use Rattle.fasta.specs.Report.{decimal, tooLongText}
 use Rattle.fasta.specs.Rows.{Put, columns, body, rowOf, totalOf}
+use Rattle.fasta.specs.Steps.{marked}
+use Rattle.fasta.specs.declared.reader.Record.{Record}
 use Rattle.fasta.proofs.DecimalLaws.{decimal-length}
 
 pub body-long : (count a mark : ℕ) → 16384 < count → tooLongText ≡ body count a mark
@@ -53,3 +56,12 @@ total-length i = omega (arith, length-append (decimal i) (10 ∷ []), decimal-le
 
 pub put-as : {l a b l′ : List ℕ} {at m : ℕ} → a ≡ b → Put l at a l′ m → Put l at b l′ m
 put-as {l} {a} {b} {l′} {at} {m} e p = subst (λ (x : List ℕ). Put l at x l′ m) e p
+
+-- the buffer for the reverse complement, in the same two cases
+pub marked-long : (k : Record) (bases other : List ℕ) → 16384 < k .count → other ≡ marked k bases other
+unfolding marked
+marked-long k bases other h = rw (lt-ltb 16384 (k .count) h)
+
+pub marked-short : (k : Record) (bases other : List ℕ) → k .count ≤ 16384 → flippedOver 2 bases 0 (k .count) other ≡ marked k bases other
+unfolding marked
+marked-short k bases other h = rw (le-ltb 16384 (k .count) h)

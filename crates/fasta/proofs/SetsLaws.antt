@@ -1,14 +1,15 @@
--- Bytes stored one after another are stored together; those stored at the front are the front.
+-- Bytes stored one after another are stored together; those stored at the front stand before the rest.
 -- Assumes nothing.
 use mathlib.Core.List.{List, [], _∷_, _++_}
-use mathlib.Core.Path.{_≡_, refl, sym, ap, ap₂, _∙_}
+use mathlib.Core.Path.{_≡_, sym, ap, ap₂, _∙_}
 use Prim.Native.Nat.{ℕ, suc, _+_, _≤_, _<_}
 use native.Mathlib.Nat.{add-zero, add-suc, suc-add, zero-add}
 use native.Mathlib.Numerals.{add-one}
 use native.Mathlib.Omega.{arith}
 use lib.ListN.{length, take, drop, getD, set, length-append}
+use lib.Seq.{sets, length-sets, sets-eq, take-suc, length-take-le}
 use Rattle.fasta.specs.Rows.{Put}
-use lib.Seq.{sets, length-sets, sets-eq, take-suc, take-at, drop-at, length-take-le}
+use Rattle.fasta.specs.Steps.{onto}
 
 pub sets-append : (a b d : List ℕ) (i : ℕ) → sets (sets d i a) (i + length a) b ≡ sets d i (a ++ b)
 sets-append [] b d i = ap (λ (k : ℕ). sets d k b) (add-zero i)
@@ -22,16 +23,6 @@ sets-take d text at i h =
     ∙ sets-append (take i text) (getD text i 0 ∷ []) d at
     ∙ ap (sets d at) (sym (take-suc text i 0 h) ∙ ap (λ (k : ℕ). take k text) (sym (add-one i)))
 
-module _ (vs l : List ℕ) (h : length vs ≤ length l) where
-  front : sets l 0 vs ≡ vs ++ drop (length vs) l
-  front = sets-eq vs l 0 (omega arith) ∙ ap (λ (k : ℕ). vs ++ drop k l) (zero-add (length vs))
-
-  pub sets-front : take (length vs) (sets l 0 vs) ≡ vs
-  sets-front = ap (take (length vs)) front ∙ take-at vs (drop (length vs) l) (length vs) refl
-
-  pub sets-behind : drop (length vs) (sets l 0 vs) ≡ drop (length vs) l
-  sets-behind = ap (drop (length vs)) front ∙ drop-at vs (drop (length vs) l) (length vs) refl
-
 -- one after another
 pub put-then : {l a b l′ l″ : List ℕ} {at m n : ℕ} → Put l at a l′ m → Put l′ m b l″ n → Put l at (a ++ b) l″ n
 put-then {l} {a} {b} {l′} {l″} {at} {m} {n} p q =
@@ -42,3 +33,10 @@ put-then {l} {a} {b} {l′} {l″} {at} {m} {n} p q =
 
 pub put-length : {l a l′ : List ℕ} {at m : ℕ} → Put l at a l′ m → length l′ ≡ length l
 put-length {l} {a} {l′} {at} {m} p = ap length (p .bytes) ∙ length-sets l at a
+
+-- at the front
+pub put-place : {l vs l′ : List ℕ} {n : ℕ} → Put l 0 vs l′ n → n ≡ length vs
+put-place {l} {vs} {l′} {n} p = p .behind ∙ zero-add (length vs)
+
+pub put-onto : {l vs l′ : List ℕ} {n : ℕ} → Put l 0 vs l′ n → length vs ≤ length l → l′ ≡ onto vs l
+put-onto {l} {vs} {l′} {n} p h = p .bytes ∙ sets-eq vs l 0 (omega arith) ∙ ap (λ (k : ℕ). vs ++ drop k l) (zero-add (length vs))

@@ -1,207 +1,181 @@
--- Steps: from what a state leads to, to what a call does.
+-- Steps: from what a state leads to, to what a step does in it.
 -- Assumes nothing.
+use mathlib.Core.Bool.{Bool, true, false}
 use mathlib.Core.List.{List, [], _∷_, _++_}
 use mathlib.Core.Path.{_≡_, refl, sym, ap, ap₂, subst, _∙_}
 use Prim.Native.Nat.{ℕ, suc, _+_, _%_, _^_, _≤_, _<_}
-use native.Mathlib.Nat.{zero-add}
 use native.Mathlib.Omega.{arith}
-use lib.ListN.{length, take, drop, getD, length-take}
-use lib.Seq.{getD-take}
-use Rattle.codes.specs.Codes.{chars}
+use borrow.Author.Tests.{ltb-true, ltb-false, eqb-true, eqb-false}
+use lib.Dec.{ltb, eqb}
+use lib.ListN.{length, take, getD, length-take}
+use lib.Seq.{getD-take, length-take-le, take-length}
+use Rattle.codes.specs.Codes.{pick, chars}
 use Rattle.codes.proofs.WidthLaws.{below-or}
-use Rattle.fasta.specs.Report.{ambiguous, strand, row, refusedText, decimal}
-use Rattle.fasta.specs.Rest.{State, start, header, fresh, within, ended, recordsBefore, Leads}
-use Rattle.fasta.specs.Rows.{Put, strandOf, columns, body, rowOf}
-use Rattle.fasta.specs.Reads.{LineEnd, Kept, Holds, Lengthens, Reads, Onward, Steps}
+use Rattle.stores.specs.Stores.{pushAscii, after}
+use Rattle.fasta.specs.Report.{ambiguous, strand, row, refusedText, decimal, isHeader}
+use Rattle.fasta.specs.Rows.{setFlags, strandOf, columns, body, rowOf}
+use Rattle.fasta.specs.Steps.{Move, move, seen, lineEnd, endsLine, lineUsed, opened, lengthened, ordinal, rowFrom, begun, inHeader, inLine, atLine, moved, next, lineTrack, trackAfter}
 use Rattle.fasta.specs.declared.reader.Record.{Record}
 use Rattle.fasta.specs.declared.reader.Reader.{Reader}
 use Rattle.fasta.specs.declared.reader.Reader.the-variants as Reader
-use Rattle.fasta.specs.declared.reader.Stepped.{Stepped}
-use Rattle.fasta.proofs.HoldLaws.{many, kept-of}
-use Rattle.fasta.proofs.LeadLaws.{leads-none, leads-blank, leads-open, leads-refused, leads-ended, leads-next, leads-header, leads-header-end, leads-within, leads-within-end, leads-letters, line-plain, line-whole, take-one}
-use Rattle.fasta.proofs.RowLaws.{body-long, row-length}
-use Rattle.fasta.proofs.SetsLaws.{sets-front, sets-behind}
+use Rattle.fasta.proofs.Rest.{State, start, header, fresh, within, ended, recordsBefore, Leads}
+use Rattle.fasta.proofs.Meaning.{Sized, Kept, Holds, Reads, From, Onward}
+use Rattle.fasta.proofs.HoldLaws.{many, kept-of, holds-none, lengthens, push-nothing, push-length}
+use Rattle.fasta.proofs.LeadLaws.{leads-none, leads-blank, leads-open, leads-refused, leads-ended, leads-next, leads-header, leads-header-end, leads-within, leads-within-end, leads-letters}
+use Rattle.fasta.proofs.LetterLaws.{flags-ambiguous}
+use Rattle.fasta.proofs.LineLaws.{line-end, line-plain, line-whole, take-one, header-first}
+use Rattle.fasta.proofs.BoundLaws.{line-bounded, track-none}
+use Rattle.fasta.proofs.RowLaws.{body-long}
 
--- what was put at the front
-module _ (l vs l′ : List ℕ) (n : ℕ) (p : Put l 0 vs l′ n) (h : length vs ≤ length l) where
-  place : n ≡ length vs
-  place = p .behind ∙ zero-add (length vs)
+from-one : (s₀ : State) (taken : List ℕ) (m : Move) (bases flags : List ℕ) → From s₀ taken m bases flags → (s : State) → s ≡ s₀ → From s taken m bases flags
+from-one s₀ taken m bases flags f s e = subst (λ (x : State). From x taken m bases flags) (sym e) f
 
-  pub put-inside : n ≤ length l
-  put-inside = omega (arith, place)
-
-  pub put-front : take n l′ ≡ vs
-  put-front = ap₂ (λ (k : ℕ) (x : List ℕ). take k x) place (p .bytes) ∙ sets-front vs l h
-
-  pub put-behind : drop n l′ ≡ drop n l
-  put-behind = ap₂ (λ (k : ℕ) (x : List ℕ). drop k x) place (p .bytes) ∙ sets-behind vs l h ∙ ap (λ (k : ℕ). drop k l) (sym place)
-
--- where a reader goes from one state
-abbrev From : State → List ℕ → List ℕ → Reader → List ℕ → Type 0
-From s taken written reader bases = recordsBefore s + 1 < 2 ^ 64 → (s′ : State) × Reads reader bases s′ × Leads s taken written s′
-
-from-one : (s₀ : State) (taken written : List ℕ) (reader : Reader) (bases : List ℕ) → From s₀ taken written reader bases → (s : State) → s ≡ s₀ → From s taken written reader bases
-from-one s₀ taken written reader bases f s e = subst (λ (x : State). From x taken written reader bases) (sym e) f
-
--- a step that writes nothing
-quiet : (reader reader′ : Reader) (part bases bases′ out taken : List ℕ) (used : ℕ) → 0 < used → used ≤ length part → take used part ≡ taken
-    → Onward reader bases taken [] reader′ bases′ → Steps reader part bases out (record { reader = reader′; used = used; wrote = 0 }) bases′ out
-quiet reader reader′ part bases bases′ out taken used h l e f =
-    record {
-      some = λ n m. h;
-      used = l;
-      wrote = omega arith;
-      kept = refl;
-      onward = subst (λ (x : List ℕ). Onward reader bases x [] reader′ bases′) (sym e) f;
-    }
-
--- a step that takes one byte and writes
-loud : (reader reader′ : Reader) (part bases bases′ out out′ written : List ℕ) (b n : ℕ) → 0 < length part → getD part 0 0 ≡ b → Put out 0 written out′ n
-    → length written ≤ length out → Onward reader bases (b ∷ []) written reader′ bases′
-    → Steps reader part bases out (record { reader = reader′; used = 1; wrote = n }) bases′ out′
-loud reader reader′ part bases bases′ out out′ written b n h e p l f =
-    record {
-      some = λ n m. omega arith;
-      used = omega arith;
-      wrote = put-inside out written out′ n p l;
-      kept = put-behind out written out′ n p l;
-      onward = ap₂-onward;
-    }
-  where
-    ap₂-onward : Onward reader bases (take 1 part) (take n out′) reader′ bases′
-    ap₂-onward =
-        subst (λ (x : List ℕ). Onward reader bases x (take n out′) reader′ bases′) (sym (take-one part h ∙ ap (λ (x : ℕ). x ∷ []) e))
-        (subst (λ (x : List ℕ). Onward reader bases (b ∷ []) x reader′ bases′) (sym (put-front out written out′ n p l)) f)
-
-one : (part : List ℕ) (b : ℕ) → 0 < length part → getD part 0 0 ≡ b → take 1 part ≡ b ∷ []
-one part b h e = take-one part h ∙ ap (λ (x : ℕ). x ∷ []) e
-
--- a record before its first letter
-pub holds-none : (i : ℕ) (bases : List ℕ) → Holds (record { number = i; count = 0; ambiguous = 0 }) bases i []
-unfolding ambiguous chars
-holds-none i bases =
-    record {
-      number = refl;
-      long = refl;
-      short = λ l. record { count = refl; flagged = refl; bases = refl };
-    }
+-- the bytes taken, by what they are
+module _ (part bases flags bases′ flags′ : List ℕ) (reader : Reader) (m : Move) where
+  taking : (taken : List ℕ) → take (m .used) part ≡ taken → Onward reader bases flags taken m bases′ flags′ → Onward reader bases flags (take (m .used) part) m bases′ flags′
+  taking taken e f = subst (λ (x : List ℕ). Onward reader bases flags x m bases′ flags′) (sym e) f
 
 -- a record's row from what is kept of it
-module _ (k : Record) (bases : List ℕ) (i : ℕ) (ls : List ℕ) (m : ℕ) (h : Holds k bases i ls) (w : m ≡ suc i) where
-  row-short : k .count ≤ 16384 → row (suc i) ls ≡ rowOf m (k .count) (k .ambiguous) (strandOf (chars 2 bases 0 (k .count)))
-  unfolding row strand rowOf body columns strandOf
+module _ (k : Record) (bases flags : List ℕ) (i : ℕ) (ls : List ℕ) (h : Holds k bases flags i ls) (w : ordinal k ≡ suc i) where
+  row-short : k .count ≤ 16384 → row (suc i) ls ≡ rowFrom k bases flags
+  unfolding row strand rowOf body columns strandOf rowFrom
   row-short l =
-      let t : Kept k bases ls = kept-of k bases i ls h l in
+      let t : Kept k bases flags ls = kept-of k bases flags i ls h l in
       ap (λ (x : ℕ). rowOf x (length ls) (ambiguous ls) (strand ls)) (sym w)
-      ∙ ap₂ (λ (c a : ℕ). rowOf m c a (strand ls)) (sym (t .count)) (sym (t .flagged))
-      ∙ ap (λ (x : List ℕ). rowOf m (k .count) (k .ambiguous) (strandOf x)) (sym (t .bases) ∙ ap (chars 2 bases 0) (sym (t .count)))
+      ∙ ap (λ (a : ℕ). rowOf (ordinal k) (length ls) a (strand ls)) (sym (flags-ambiguous ls) ∙ ap setFlags (sym (t .flags)))
+      ∙ ap (λ (x : List ℕ). rowOf (ordinal k) (length ls) (setFlags (chars 1 flags 0 (length ls))) (strandOf x)) (sym (t .bases))
+      ∙ ap (λ (n : ℕ). rowOf (ordinal k) n (setFlags (chars 1 flags 0 n)) (strandOf (chars 2 bases 0 n))) (sym (t .count))
 
-  row-long : 16384 < k .count → row (suc i) ls ≡ rowOf m (k .count) (k .ambiguous) (strandOf (chars 2 bases 0 (k .count)))
-  unfolding row strand rowOf body columns strandOf
+  row-long : 16384 < k .count → row (suc i) ls ≡ rowFrom k bases flags
+  unfolding row strand rowOf body columns strandOf rowFrom
   row-long l =
       ap (λ (x : ℕ). rowOf x (length ls) (ambiguous ls) (strand ls)) (sym w)
-      ∙ ap (λ (x : List ℕ). decimal m ++ (9 ∷ (x ++ (10 ∷ []))))
-      (sym (body-long (length ls) (ambiguous ls) (strand ls) (many k bases i ls h l)) ∙ body-long (k .count) (k .ambiguous) (strandOf (chars 2 bases 0 (k .count))) l)
+      ∙ ap (λ (x : List ℕ). decimal (ordinal k) ++ (9 ∷ (x ++ (10 ∷ []))))
+      (sym (body-long (length ls) (ambiguous ls) (strand ls) (many k bases flags i ls h l)) ∙ body-long (k .count) (setFlags (chars 1 flags 0 (k .count))) (strandOf (chars 2 bases 0 (k .count))) l)
 
-  pub row-held : row (suc i) ls ≡ rowOf m (k .count) (k .ambiguous) (strandOf (chars 2 bases 0 (k .count)))
+  pub row-held : row (suc i) ls ≡ rowFrom k bases flags
   row-held = below-or 16384 (k .count) row-long row-short
 
--- nothing to read, or no room to write
-pub steps-none : (reader : Reader) (part bases out : List ℕ) → (0 < length part → 96 ≤ length out → 0 < 0) → Steps reader part bases out (record { reader = reader; used = 0; wrote = 0 }) bases out
-steps-none reader part bases out e =
-    record {
-      some = e;
-      used = omega arith;
-      wrote = omega arith;
-      kept = refl;
-      onward = λ s h l. (s, h, leads-none s);
-    }
-
-module _ (part bases out : List ℕ) (h : 0 < length part) where
+module _ (part bases flags : List ℕ) where
   -- before any header
-  pub steps-blank : getD part 0 0 ≡ 10 → Steps Reader.Start part bases out (record { reader = Reader.Start; used = 1; wrote = 0 }) bases out
-  steps-blank e =
-      quiet Reader.Start Reader.Start part bases bases out (10 ∷ []) 1 (omega arith) (omega arith) (one part 10 h e)
-      (from-one start (10 ∷ []) [] Reader.Start bases (λ l. (start, refl, leads-blank)))
+  module _ (h : 0 < length part) where
+    one : (b : ℕ) → getD part 0 0 ≡ b → take 1 part ≡ b ∷ []
+    one b e = take-one part h ∙ ap (λ (x : ℕ). x ∷ []) e
 
-  pub steps-open : getD part 0 0 ≡ 62 → Steps Reader.Start part bases out (record { reader = Reader.Header 0; used = 1; wrote = 0 }) bases out
-  steps-open e =
-      quiet Reader.Start (Reader.Header 0) part bases bases out (62 ∷ []) 1 (omega arith) (omega arith) (one part 62 h e)
-      (from-one start (62 ∷ []) [] (Reader.Header 0) bases (λ l. (header 0, refl, leads-open)))
-
-  pub steps-refused : 96 ≤ length out → (out′ : List ℕ) (n : ℕ) → (getD part 0 0 ≡ 10 → ⊥) → (getD part 0 0 ≡ 62 → ⊥) → Put out 0 (refusedText ++ (10 ∷ [])) out′ n
-      → Steps Reader.Start part bases out (record { reader = Reader.Ended; used = 1; wrote = n }) bases out′
-  steps-refused room out′ n ne nh p =
-      loud Reader.Start Reader.Ended part bases bases out out′ (refusedText ++ (10 ∷ [])) (getD part 0 0) n h refl p (omega arith)
-      (from-one start (getD part 0 0 ∷ []) (refusedText ++ (10 ∷ [])) Reader.Ended bases (λ l. (ended, refl, leads-refused (getD part 0 0) ne nh)))
+    begun-onward : Onward Reader.Start bases flags (take (begun part .used) part) (begun part) bases flags
+    unfolding begun
+    begun-onward =
+        cases (eqb (getD part 0 0) 10) refl (eqb (getD part 0 0) 62) refl
+      where
+        cases : (t : Bool) → eqb (getD part 0 0) 10 ≡ t → (u : Bool) → eqb (getD part 0 0) 62 ≡ u
+            → (let m : Move = pick t (move Reader.Start 1 []) (pick u (move (Reader.Header 0) 1 []) (move Reader.Ended 1 (refusedText ++ (10 ∷ [])))) in
+            Onward Reader.Start bases flags (take (m .used) part) m bases flags)
+        cases true e u f = taking part bases flags bases flags Reader.Start (move Reader.Start 1 []) (10 ∷ []) (one 10 (eqb-true _ 10 e)) (from-one start (10 ∷ []) (move Reader.Start 1 []) bases flags (λ l. (start, refl, leads-blank)))
+        cases false e true f = taking part bases flags bases flags Reader.Start (move (Reader.Header 0) 1 []) (62 ∷ []) (one 62 (eqb-true _ 62 f)) (from-one start (62 ∷ []) (move (Reader.Header 0) 1 []) bases flags (λ l. (header 0, refl, leads-open)))
+        cases false e false f =
+            taking part bases flags bases flags Reader.Start (move Reader.Ended 1 (refusedText ++ (10 ∷ []))) (getD part 0 0 ∷ []) (one (getD part 0 0) refl)
+            (from-one start (getD part 0 0 ∷ []) (move Reader.Ended 1 (refusedText ++ (10 ∷ []))) bases flags (λ l. (ended, refl, leads-refused (getD part 0 0) (eqb-false _ 10 e) (eqb-false _ 62 f))))
 
   -- after the report
-  pub steps-ended : Steps Reader.Ended part bases out (record { reader = Reader.Ended; used = length part; wrote = 0 }) bases out
-  steps-ended =
-      quiet Reader.Ended Reader.Ended part bases bases out (take (length part) part) (length part) h (omega arith) refl
-      (from-one ended (take (length part) part) [] Reader.Ended bases (λ l. (ended, refl, leads-ended (take (length part) part))))
+  ended-onward : Onward Reader.Ended bases flags (take (length part) part) (move Reader.Ended (length part) []) bases flags
+  ended-onward = from-one ended (take (length part) part) (move Reader.Ended (length part) []) bases flags (λ l. (ended, refl, leads-ended (take (length part) part)))
+
+  -- the rest of a line is in this part, or it is not
+  abbrev whole : Bool → List ℕ
+  whole true = take (lineEnd part) part ++ (10 ∷ [])
+  whole false = take (lineEnd part) part
+
+  line-taken : (t : Bool) → endsLine part ≡ t → take (lineUsed part) part ≡ whole t
+  line-taken true e = rw e (line-whole part (ltb-true _ _ e))
+  line-taken false e = rw e
 
   -- in a header line
-  module _ (i r : ℕ) (e : LineEnd part r) where
-    pub steps-header : r ≡ length part → Steps (Reader.Header i) part bases out (record { reader = Reader.Header i; used = r; wrote = 0 }) bases out
-    steps-header q =
-        quiet (Reader.Header i) (Reader.Header i) part bases bases out (take r part) r (omega arith) (e .inside) refl
-        (from-one (header i) (take r part) [] (Reader.Header i) bases (λ l. (header i, refl, leads-header i (take r part) (line-plain part r e))))
-
-    pub steps-header-end : r < length part
-        → Steps (Reader.Header i) part bases out (record { reader = Reader.Fresh (record { number = i; count = 0; ambiguous = 0 }); used = r + 1; wrote = 0 }) bases out
-    steps-header-end q =
-        quiet (Reader.Header i) (Reader.Fresh (record { number = i; count = 0; ambiguous = 0 })) part bases bases out (take r part ++ (10 ∷ [])) (r + 1) (omega arith) (omega arith) (line-whole part r e q)
-        (from-one (header i) (take r part ++ (10 ∷ [])) [] (Reader.Fresh (record { number = i; count = 0; ambiguous = 0 })) bases
-        (λ l. (fresh i [], (i, [], refl, holds-none i bases), leads-header-end i (take r part) (line-plain part r e))))
+  header-onward : (i : ℕ) → Onward (Reader.Header i) bases flags (take (inHeader i part .used) part) (inHeader i part) bases flags
+  unfolding inHeader
+  header-onward i =
+      cases (endsLine part) refl
+    where
+      cases : (t : Bool) → endsLine part ≡ t → Onward (Reader.Header i) bases flags (take (lineUsed part) part) (move (pick t (Reader.Fresh (opened i)) (Reader.Header i)) (lineUsed part) []) bases flags
+      cases true e =
+          taking part bases flags bases flags (Reader.Header i) (move (Reader.Fresh (opened i)) (lineUsed part) []) (whole true) (line-taken true e)
+          (from-one (header i) (whole true) (move (Reader.Fresh (opened i)) (lineUsed part) []) bases flags
+          (λ l. (fresh i [], (i, [], refl, holds-none i bases flags), leads-header-end i (take (lineEnd part) part) (line-plain part))))
+      cases false e =
+          taking part bases flags bases flags (Reader.Header i) (move (Reader.Header i) (lineUsed part) []) (whole false) (line-taken false e)
+          (from-one (header i) (whole false) (move (Reader.Header i) (lineUsed part) []) bases flags (λ l. (header i, refl, leads-header i (take (lineEnd part) part) (line-plain part))))
 
   -- in a record, within a line
-  module _ (k k′ : Record) (bases′ : List ℕ) (r : ℕ) (e : LineEnd part r) (g : Lengthens k bases (take r part) k′ bases′) where
-    pub steps-within : r ≡ length part → Steps (Reader.Within k) part bases out (record { reader = Reader.Within k′; used = r; wrote = 0 }) bases′ out
-    steps-within q =
-        quiet (Reader.Within k) (Reader.Within k′) part bases bases′ out (take r part) r (omega arith) (e .inside) refl
-        (λ s m. from-one (within (m .0) (m .1)) (take r part) [] (Reader.Within k′) bases′
-        (λ l. (within (m .0) (m .1 ++ take r part), (m .0, m .1 ++ take r part, refl, g (m .0) (m .1) (m .3)), leads-within (m .0) (take r part) (line-plain part r e) (m .1)))
-        s (m .2))
+  module _ (size : Sized bases flags) (k : Record) where
+    letters : List ℕ
+    letters = take (lineEnd part) part
 
-    pub steps-within-end : r < length part → Steps (Reader.Within k) part bases out (record { reader = Reader.Fresh k′; used = r + 1; wrote = 0 }) bases′ out
-    steps-within-end q =
-        quiet (Reader.Within k) (Reader.Fresh k′) part bases bases′ out (take r part ++ (10 ∷ [])) (r + 1) (omega arith) (omega arith) (line-whole part r e q)
-        (λ s m. from-one (within (m .0) (m .1)) (take r part ++ (10 ∷ [])) [] (Reader.Fresh k′) bases′
-        (λ l. (fresh (m .0) (m .1 ++ take r part), (m .0, m .1 ++ take r part, refl, g (m .0) (m .1) (m .3)), leads-within-end (m .0) (take r part) (line-plain part r e) (m .1)))
-        s (m .2))
+    grown : (i : ℕ) (ls : List ℕ) → Holds k bases flags i ls → Holds (lengthened k (lineEnd part)) (lineTrack 2 k part bases) (lineTrack 1 k part flags) i (ls ++ letters)
+    unfolding lineTrack letters
+    grown i ls h =
+        subst (λ (n : ℕ). Holds (lengthened k n) (after 2 bases (k .count) (pushAscii letters)) (after 1 flags (k .count) (pushAscii letters)) i (ls ++ letters))
+        (length-take-le (lineEnd part) part (line-end part .inside)) (lengthens k bases flags letters size i ls h)
 
-  -- in a record, at the start of a line
-  pub steps-letters : 96 ≤ length out → (k : Record) (r : Stepped) (bases′ out′ : List ℕ) → (getD part 0 0 ≡ 62 → ⊥) → Steps (Reader.Within k) part bases out r bases′ out′ → Steps (Reader.Fresh k) part bases out r bases′ out′
-  steps-letters room k r bases′ out′ n f =
-      record {
-        some = f .some;
-        used = f .used;
-        wrote = f .wrote;
-        kept = f .kept;
-        onward =
-            λ s m. from-one (fresh (m .0) (m .1)) (take (r .used) part) (take (r .wrote) out′) (r .reader) bases′
-            (λ l.
-            let g = f .onward (within (m .0) (m .1)) (m .0, m .1, refl, m .3) l in
-            let u : 0 < r .used = f .some h room in (
-              g .0,
-              g .1,
-              leads-letters (m .0) (m .1) (take (r .used) part) (take (r .wrote) out′) (g .0) (omega (arith, length-take (r .used) part)) (λ q. n (sym (getD-take (r .used) part 0 0 u) ∙ q)) (g .2),
-            ))
-            s (m .2);
-      }
+    line-onward : Onward (Reader.Within k) bases flags (take (inLine k part .used) part) (inLine k part) (lineTrack 2 k part bases) (lineTrack 1 k part flags)
+    unfolding inLine letters
+    line-onward =
+        cases (endsLine part) refl
+      where
+        cases : (t : Bool) → endsLine part ≡ t → Onward (Reader.Within k) bases flags (take (lineUsed part) part) (move (pick t (Reader.Fresh (lengthened k (lineEnd part))) (Reader.Within (lengthened k (lineEnd part)))) (lineUsed part) []) (lineTrack 2 k part bases) (lineTrack 1 k part flags)
+        cases true e =
+            taking part bases flags (lineTrack 2 k part bases) (lineTrack 1 k part flags) (Reader.Within k) (move (Reader.Fresh (lengthened k (lineEnd part))) (lineUsed part) []) (whole true) (line-taken true e)
+            (λ s m. from-one (within (m .0) (m .1)) (whole true) (move (Reader.Fresh (lengthened k (lineEnd part))) (lineUsed part) []) (lineTrack 2 k part bases) (lineTrack 1 k part flags)
+            (λ l. (fresh (m .0) (m .1 ++ letters), (m .0, m .1 ++ letters, refl, grown (m .0) (m .1) (m .3)), leads-within-end (m .0) letters (line-plain part) (m .1)))
+            s (m .2))
+        cases false e =
+            taking part bases flags (lineTrack 2 k part bases) (lineTrack 1 k part flags) (Reader.Within k) (move (Reader.Within (lengthened k (lineEnd part))) (lineUsed part) []) (whole false) (line-taken false e)
+            (λ s m. from-one (within (m .0) (m .1)) (whole false) (move (Reader.Within (lengthened k (lineEnd part))) (lineUsed part) []) (lineTrack 2 k part bases) (lineTrack 1 k part flags)
+            (λ l. (within (m .0) (m .1 ++ letters), (m .0, m .1 ++ letters, refl, grown (m .0) (m .1) (m .3)), leads-within (m .0) letters (line-plain part) (m .1)))
+            s (m .2))
 
-  pub steps-next : 96 ≤ length out → (k : Record) (m : ℕ) (out′ : List ℕ) (n : ℕ) → getD part 0 0 ≡ 62 → m ≡ (k .number + 1) % 2 ^ 64
-      → Put out 0 (rowOf m (k .count) (k .ambiguous) (strandOf (chars 2 bases 0 (k .count)))) out′ n
-      → Steps (Reader.Fresh k) part bases out (record { reader = Reader.Header m; used = 1; wrote = n }) bases out′
-  steps-next room k m out′ n e q p =
-      loud (Reader.Fresh k) (Reader.Header m) part bases bases out out′ (rowOf m (k .count) (k .ambiguous) (strandOf (chars 2 bases 0 (k .count)))) 62 n h e p
-      (omega (arith, row-length m (k .count) (k .ambiguous) (strandOf (chars 2 bases 0 (k .count)))))
-      (λ s j. from-one (fresh (j .0) (j .1)) (62 ∷ []) (rowOf m (k .count) (k .ambiguous) (strandOf (chars 2 bases 0 (k .count)))) (Reader.Header m) bases
-      (λ b.
-      let w : m ≡ suc (j .0) = omega (arith, j .3 .number) in (
-        header (suc (j .0)),
-        ap header (sym w),
-        subst (λ (x : List ℕ). Leads (fresh (j .0) (j .1)) (62 ∷ []) x (header (suc (j .0)))) (row-held k bases (j .0) (j .1) m (j .3) w) (leads-next (j .0) (j .1)),
-      ))
-      s (j .2))
+    -- and at the start of one
+    line-letters : 0 < length part → isHeader part ≡ false → Onward (Reader.Fresh k) bases flags (take (inLine k part .used) part) (inLine k part) (lineTrack 2 k part bases) (lineTrack 1 k part flags)
+    line-letters h e s j =
+        from-one (fresh (j .0) (j .1)) (take (inLine k part .used) part) (inLine k part) (lineTrack 2 k part bases) (lineTrack 1 k part flags)
+        (λ l.
+        let g = line-onward (within (j .0) (j .1)) (j .0, j .1, refl, j .3) l in
+        let u : 0 < inLine k part .used = line-bounded part k .some h in (
+          g .0,
+          g .1,
+          leads-letters (j .0) (j .1) (take (inLine k part .used) part) (inLine k part .written) (g .0) (omega (arith, length-take (inLine k part .used) part))
+          (λ q. eqb-false (getD part 0 0) 62 (sym (header-first part h) ∙ e) (sym (getD-take (inLine k part .used) part 0 0 u) ∙ q)) (g .2),
+        ))
+        s (j .2)
+
+    line-next : 0 < length part → isHeader part ≡ true → Onward (Reader.Fresh k) bases flags (take 1 part) (move (Reader.Header (ordinal k)) 1 (rowFrom k bases flags)) bases flags
+    line-next h e =
+        taking part bases flags bases flags (Reader.Fresh k) (move (Reader.Header (ordinal k)) 1 (rowFrom k bases flags)) (62 ∷ []) (one h 62 (eqb-true (getD part 0 0) 62 (sym (header-first part h) ∙ e)))
+        (λ s j. from-one (fresh (j .0) (j .1)) (62 ∷ []) (move (Reader.Header (ordinal k)) 1 (rowFrom k bases flags)) bases flags
+        (λ l.
+        let w : ordinal k ≡ suc (j .0) = omega (arith, j .3 .number) in (
+          header (suc (j .0)),
+          ap header (sym w),
+          subst (λ (x : List ℕ). Leads (fresh (j .0) (j .1)) (62 ∷ []) x (header (suc (j .0)))) (row-held k bases flags (j .0) (j .1) (j .3) w) (leads-next (j .0) (j .1)),
+        ))
+        s (j .2))
+
+    fresh-onward : 0 < length part → Onward (Reader.Fresh k) bases flags (take (atLine k part bases flags .used) part) (atLine k part bases flags) (trackAfter 2 (Reader.Fresh k) part bases) (trackAfter 1 (Reader.Fresh k) part flags)
+    unfolding atLine trackAfter
+    fresh-onward h =
+        cases (isHeader part) refl
+      where
+        cases : (t : Bool) → isHeader part ≡ t
+            → (let m : Move = pick t (move (Reader.Header (ordinal k)) 1 (rowFrom k bases flags)) (inLine k part) in
+            Onward (Reader.Fresh k) bases flags (take (m .used) part) m (pick t bases (lineTrack 2 k part bases)) (pick t flags (lineTrack 1 k part flags)))
+        cases true e = line-next h e
+        cases false e = line-letters h e
+
+-- a step in any state
+pub next-onward : (bases flags : List ℕ) → Sized bases flags → (reader : Reader) (part : List ℕ)
+    → Onward reader bases flags (take (next reader part bases flags .used) part) (next reader part bases flags) (trackAfter 2 reader part bases) (trackAfter 1 reader part flags)
+unfolding next trackAfter
+next-onward bases flags size reader [] = rw (track-none 2 reader bases, track-none 1 reader flags) (λ s h l. (s, h, leads-none s))
+next-onward bases flags size Reader.Start (b ∷ bs) = begun-onward (b ∷ bs) bases flags (omega arith)
+next-onward bases flags size (Reader.Header i) (b ∷ bs) = header-onward (b ∷ bs) bases flags i
+next-onward bases flags size (Reader.Fresh k) (b ∷ bs) = fresh-onward (b ∷ bs) bases flags size k (omega arith)
+next-onward bases flags size (Reader.Within k) (b ∷ bs) = line-onward (b ∷ bs) bases flags size k
+next-onward bases flags size Reader.Ended (b ∷ bs) = ended-onward (b ∷ bs) bases flags

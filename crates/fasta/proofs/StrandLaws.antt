@@ -70,17 +70,19 @@ module _ (bs other : List ℕ) (n : ℕ) (h : n ≤ 16384) (lb : length bs ≡ 4
       )
 
   -- z is the offset, m the length
-  pub strand-order : (r : Ordered) (o : Outcome) (other′ : List ℕ) (z m : ℕ) → z ≡ 0 → m ≡ n → o ≡ flipOutcome 2 bs z m other
-      → other′ ≡ ifDone o (flippedOver 2 bs z m other) other → length other′ ≡ length other → orderedSays r ≡ ordered 2 bs z m other′ z m
-      → r ≡ Ordered.Is (compare cs (flipped 2 cs))
-  unfolding ordered
-  strand-order r o other′ z m ez em e w l s =
-      let d : o ≡ Done = e ∙ ap₂ (λ (a b : ℕ). flipOutcome 2 bs a b other) ez em ∙ flip-done in
-      let f : other′ ≡ flippedOver 2 bs 0 n other = w ∙ ap₂ (λ (a b : ℕ). ifDone o (flippedOver 2 bs a b other) other) ez em ∙ ap (λ (x : Outcome). ifDone x (flippedOver 2 bs 0 n other) other) d in
-      says-once ordered-told r (Ordered.Is (compare cs (flipped 2 cs)))
-      (s
-      ∙ ap₂ (λ (a b : ℕ). ordered 2 bs a b other′ a b) ez em
-      ∙ ap₂ (λ (x : Outcome) (y : List ℕ). answer x (orderNumber (compare cs y)) (pos 0)) (pair-done other′ l) (ap (λ (x : List ℕ). chars 2 x 0 n) f ∙ flipped-chars))
+  module _ (o : Outcome) (other′ : List ℕ) (z m : ℕ) (ez : z ≡ 0) (em : m ≡ n) (e : o ≡ flipOutcome 2 bs z m other) (w : other′ ≡ ifDone o (flippedOver 2 bs z m other) other) where
+    pub flip-left : other′ ≡ flippedOver 2 bs 0 n other
+    flip-left =
+        let d : o ≡ Done = e ∙ ap₂ (λ (a b : ℕ). flipOutcome 2 bs a b other) ez em ∙ flip-done in
+        w ∙ ap₂ (λ (a b : ℕ). ifDone o (flippedOver 2 bs a b other) other) ez em ∙ ap (λ (x : Outcome). ifDone x (flippedOver 2 bs 0 n other) other) d
+
+    pub strand-order : (r : Ordered) → length other′ ≡ length other → orderedSays r ≡ ordered 2 bs z m other′ z m → r ≡ Ordered.Is (compare cs (flipped 2 cs))
+    unfolding ordered
+    strand-order r l s =
+        says-once ordered-told r (Ordered.Is (compare cs (flipped 2 cs)))
+        (s
+        ∙ ap₂ (λ (a b : ℕ). ordered 2 bs a b other′ a b) ez em
+        ∙ ap₂ (λ (x : Outcome) (y : List ℕ). answer x (orderNumber (compare cs y)) (pos 0)) (pair-done other′ l) (ap (λ (x : List ℕ). chars 2 x 0 n) flip-left ∙ flipped-chars))
 
 -- the order in an answer, and none in a refusal
 pub is-order : (r : Ordered) (p o : Order) → r ≡ Ordered.Is p → r ≡ Ordered.Is o → p ≡ o

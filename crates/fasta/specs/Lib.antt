@@ -1,4 +1,3 @@
 pub mod Report
-pub mod Rest
 pub mod Rows
-pub mod Reads
+pub mod Steps

@@ -1,4 +1,4 @@
--- A row of the report from what is kept of a record: its count of letters, of ambiguous ones, and its bases.
+-- A row of the report from what is kept of a record: its count of letters and its tracks.
 -- Assumes nothing.
 use mathlib.Core.List.{List, [], _∷_, _++_}
 use mathlib.Core.Path.{_≡_}
@@ -15,6 +15,11 @@ use Rattle.fasta.specs.Report.{decimal, sign, tooLongText, totalText}
 pub record Put (l : List ℕ) (at : ℕ) (vs l′ : List ℕ) (next : ℕ) : Type 0 where
   pub behind : next ≡ at + length vs
   pub bytes : l′ ≡ sets l at vs
+
+-- how many of a list of flags are set
+unfoldable pub setFlags : List ℕ → ℕ
+setFlags [] = 0
+setFlags (c ∷ cs) = c + setFlags cs
 
 -- bases against their reverse complement
 unfoldable pub strandOf : List ℕ → ℕ
@@ -34,8 +39,3 @@ rowOf i count ambiguous mark = decimal i ++ (9 ∷ (body count ambiguous mark ++
 
 unfoldable pub totalOf : ℕ → List ℕ
 totalOf i = totalText ++ (9 ∷ (decimal i ++ (10 ∷ [])))
-
--- the last row, and the total
-unfoldable pub closing : ℕ → ℕ → ℕ → ℕ → List ℕ
-unfolding rowOf totalOf
-closing i count ambiguous mark = rowOf i count ambiguous mark ++ totalOf i

@@ -6,18 +6,21 @@ use crate::states::begin;
 use crate::states::close;
 use crate::states::in_header;
 use crate::states::in_line;
-ghost use Rattle.fasta.specs.Reads.{Begins, Steps, Finishes};
+ghost use mathlib.Core.Path.{_≡_};
+ghost use lib.ListN.{length};
+ghost use Rattle.fasta.specs.Steps.{stepped, onto, seen, started, next, trackAfter, otherAfter, lastLines, otherAtEnd};
 
-// The bytes of a buffer for 16,384 bases, and those of a buffer for what a call writes.
+// The bytes of a buffer for 16,384 bases, for 16,384 flags, and for what a call writes.
 pub const BASES: usize = 4144;
+
+pub const FLAGS: usize = 2096;
 
 pub const OUT: usize = 96;
 
-// The open record: the records before it, its letters (16,385 for any number above 16,384), and the ambiguous ones among them.
+// The open record: the records before it, and its letters (16,385 for any number above 16,384).
 pub struct Record {
     pub number: u64,
     pub count: usize,
-    pub ambiguous: u64,
 }
 
 // Where the bytes read so far end: before any header, in a header line after so many records, in a record at the start of
@@ -39,7 +42,8 @@ pub struct Stepped {
 
 // The reader before any byte; writes the heading. Nothing is written to a buffer of fewer than OUT bytes, here or below.
 pub fn start(out: &mut [u8]) -> Stepped
-    ensures { λ r. ⌜ Begins (now (out .entry)) r (now (out .exit)) ⌝ }
+    ensures says { λ r. ⌜ r ≡ stepped (started (now (out .entry))) ⌝ }
+    ensures out { λ _. ⌜ now (out .exit) ≡ onto (started (now (out .entry)) .written) (now (out .entry)) ⌝ }
 {
     if out.len() < OUT {
         return Stepped {
@@ -56,16 +60,21 @@ pub fn start(out: &mut [u8]) -> Stepped
     }
 }
 
-// Reads on in a part of the input: the rest of a line, or the `>` of a header; none of it where `out` is too short. The bases of
-// the open record stand in `bases`; `other` is lent for their reverse complement.
+// Reads on in a part of the input: the rest of a line, or the `>` of a header; none of it where `out` is too short. The tracks of
+// the open record stand in `bases` and `flags`; `other` is lent for the reverse complement.
 pub fn step(
     reader: Reader,
     part: &[u8],
     bases: &mut [u8; BASES],
+    flags: &mut [u8; FLAGS],
     other: &mut [u8; BASES],
     out: &mut [u8],
 ) -> Stepped
-    ensures { λ r. ⌜ Steps reader (now (part .entry)) (now (bases .entry)) (now (out .entry)) r (now (bases .exit)) (now (out .exit)) ⌝ }
+    ensures says { λ r. ⌜ r ≡ stepped (next reader (seen (now (part .entry)) (now (out .entry))) (now (bases .entry)) (now (flags .entry))) ⌝ }
+    ensures bases { λ _. ⌜ now (bases .exit) ≡ trackAfter 2 reader (seen (now (part .entry)) (now (out .entry))) (now (bases .entry)) ⌝ }
+    ensures flags { λ _. ⌜ now (flags .exit) ≡ trackAfter 1 reader (seen (now (part .entry)) (now (out .entry))) (now (flags .entry)) ⌝ }
+    ensures other { λ _. ⌜ now (other .exit) ≡ otherAfter reader (seen (now (part .entry)) (now (out .entry))) (now (bases .entry)) (now (other .entry)) ⌝ }
+    ensures out { λ _. ⌜ now (out .exit) ≡ onto (next reader (seen (now (part .entry)) (now (out .entry))) (now (bases .entry)) (now (flags .entry)) .written) (now (out .entry)) ⌝ }
 {
     if part.len() == 0 {
         return Stepped {
@@ -84,8 +93,8 @@ pub fn step(
     match reader {
         Reader::Start => begin(part, out),
         Reader::Header(number) => in_header(number, part),
-        Reader::Fresh(kept) => at_line(kept, part, bases, other, out),
-        Reader::Within(kept) => in_line(kept, part, bases),
+        Reader::Fresh(kept) => at_line(kept, part, bases, flags, other, out),
+        Reader::Within(kept) => in_line(kept, part, bases, flags),
         Reader::Ended => Stepped {
             reader: Reader::Ended,
             used: part.len(),
@@ -95,26 +104,25 @@ pub fn step(
 }
 
 // The end of the input: writes the last row and the total, and answers how many bytes.
-pub fn finish(reader: Reader, bases: &[u8; BASES], other: &mut [u8; BASES], out: &mut [u8]) -> usize
-    ensures { λ r. ⌜ Finishes reader (now (bases .entry)) (now (out .entry)) r (now (out .exit)) ⌝ }
+pub fn finish(
+    reader: Reader,
+    bases: &[u8; BASES],
+    flags: &[u8; FLAGS],
+    other: &mut [u8; BASES],
+    out: &mut [u8],
+) -> usize
+    ensures says { λ r. ⌜ r ≡ length (lastLines reader (now (bases .entry)) (now (flags .entry)) (now (out .entry))) ⌝ }
+    ensures other { λ _. ⌜ now (other .exit) ≡ otherAtEnd reader (now (bases .entry)) (now (other .entry)) (now (out .entry)) ⌝ }
+    ensures out { λ _. ⌜ now (out .exit) ≡ onto (lastLines reader (now (bases .entry)) (now (flags .entry)) (now (out .entry))) (now (out .entry)) ⌝ }
 {
     if out.len() < OUT {
         return 0;
     }
     match reader {
         Reader::Start => put_total(0, out, 0),
-        Reader::Header(number) => close(
-            Record {
-                number,
-                count: 0,
-                ambiguous: 0,
-            },
-            bases,
-            other,
-            out,
-        ),
-        Reader::Fresh(kept) => close(kept, bases, other, out),
-        Reader::Within(kept) => close(kept, bases, other, out),
+        Reader::Header(number) => close(Record { number, count: 0 }, bases, flags, other, out),
+        Reader::Fresh(kept) => close(kept, bases, flags, other, out),
+        Reader::Within(kept) => close(kept, bases, flags, other, out),
         Reader::Ended => 0,
     }
 }

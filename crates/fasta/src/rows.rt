@@ -1,5 +1,7 @@
 // Rows of the report, written to a lent buffer from a place on; each answers the place behind what it wrote.
+use crate::counts::set_flags;
 use crate::reader::BASES;
+use crate::reader::FLAGS;
 use crate::reader::Record;
 use codes::units::Chars;
 use order::answers::Order;
@@ -12,7 +14,9 @@ ghost use Prim.Native.Nat.{_+_, _≤_, _<_};
 ghost use lib.ListN.{length};
 ghost use Rattle.codes.specs.Codes.{chars};
 ghost use Rattle.fasta.specs.Report.{decimal};
-ghost use Rattle.fasta.specs.Rows.{Put, strandOf, columns, body, rowOf, totalOf};
+ghost use Rattle.views.specs.Views.{flippedOver};
+ghost use Rattle.fasta.specs.Rows.{Put, setFlags, strandOf, columns, body, rowOf, totalOf};
+ghost use Rattle.fasta.specs.Steps.{marked};
 
 pub(crate) fn put_byte(byte: u8, out: &mut [u8], at: usize) -> usize
     requires { ⌜ at < length (now out) ⌝ }
@@ -53,10 +57,11 @@ pub(crate) fn put_decimal(n: u64, out: &mut [u8], at: usize) -> usize
     put_text(&text[i..], out, at)
 }
 
-// `<`, `=` or `>`: the bases in a buffer against their reverse complement, for which `other` is lent.
+// `<`, `=` or `>`: the bases in a buffer against their reverse complement, which is left in `other`.
 fn strand(bases: &[u8; BASES], count: usize, other: &mut [u8; BASES]) -> u8
     requires { ⌜ count ≤ 16384 ⌝ }
-    ensures { λ r. ⌜ r ≡ strandOf (chars 2 (now (bases .entry)) 0 count) ⌝ }
+    ensures says { λ r. ⌜ r ≡ strandOf (chars 2 (now (bases .entry)) 0 count) ⌝ }
+    ensures other { λ _. ⌜ now (other .exit) ≡ flippedOver 2 (now (bases .entry)) 0 count (now (other .entry)) ⌝ }
 {
     let none = Chars::new(0);
     let len = Chars::new(count);
@@ -72,13 +77,13 @@ fn strand(bases: &[u8; BASES], count: usize, other: &mut [u8; BASES]) -> u8
 }
 
 // The columns behind a record's number.
-fn put_columns(kept: Record, mark: u8, out: &mut [u8], at: usize) -> usize
+fn put_columns(count: usize, ambiguous: u64, mark: u8, out: &mut [u8], at: usize) -> usize
     requires { ⌜ at + 43 ≤ length (now out) ⌝ }
-    ensures { λ r. ⌜ Put (now (out .entry)) at (columns (kept .count) (kept .ambiguous) mark) (now (out .exit)) r ⌝ }
+    ensures { λ r. ⌜ Put (now (out .entry)) at (columns count ambiguous mark) (now (out .exit)) r ⌝ }
 {
-    let a = put_decimal(kept.count as u64, out, at);
+    let a = put_decimal(count as u64, out, at);
     let b = put_byte(b'\t', out, a);
-    let c = put_decimal(kept.ambiguous, out, b);
+    let c = put_decimal(ambiguous, out, b);
     let d = put_byte(b'\t', out, c);
     put_byte(mark, out, d)
 }
@@ -87,19 +92,22 @@ fn put_columns(kept: Record, mark: u8, out: &mut [u8], at: usize) -> usize
 fn put_body(
     kept: Record,
     bases: &[u8; BASES],
+    flags: &[u8; FLAGS],
     other: &mut [u8; BASES],
     out: &mut [u8],
     at: usize,
 ) -> usize
     requires { ⌜ at + 43 ≤ length (now out) ⌝ }
-    ensures { λ r. ⌜ Put (now (out .entry)) at (body (kept .count) (kept .ambiguous) (strandOf (chars 2 (now (bases .entry)) 0 (kept .count)))) (now (out .exit)) r ⌝ }
+    ensures out { λ r. ⌜ Put (now (out .entry)) at (body (kept .count) (setFlags (chars 1 (now (flags .entry)) 0 (kept .count))) (strandOf (chars 2 (now (bases .entry)) 0 (kept .count)))) (now (out .exit)) r ⌝ }
+    ensures other { λ _. ⌜ now (other .exit) ≡ marked kept (now (bases .entry)) (now (other .entry)) ⌝ }
 {
     let count = kept.count;
     if 16384 < count {
         return put_text(b"too-long", out, at);
     }
+    let ambiguous = set_flags(flags, count);
     let mark = strand(bases, count, other);
-    put_columns(kept, mark, out, at)
+    put_columns(count, ambiguous, mark, out, at)
 }
 
 // A record's row, at the front of `out`.
@@ -107,15 +115,17 @@ pub(crate) fn put_row(
     number: u64,
     kept: Record,
     bases: &[u8; BASES],
+    flags: &[u8; FLAGS],
     other: &mut [u8; BASES],
     out: &mut [u8],
 ) -> usize
     requires { ⌜ 65 ≤ length (now out) ⌝ }
-    ensures { λ r. ⌜ Put (now (out .entry)) 0 (rowOf number (kept .count) (kept .ambiguous) (strandOf (chars 2 (now (bases .entry)) 0 (kept .count)))) (now (out .exit)) r ⌝ }
+    ensures out { λ r. ⌜ Put (now (out .entry)) 0 (rowOf number (kept .count) (setFlags (chars 1 (now (flags .entry)) 0 (kept .count))) (strandOf (chars 2 (now (bases .entry)) 0 (kept .count)))) (now (out .exit)) r ⌝ }
+    ensures other { λ _. ⌜ now (other .exit) ≡ marked kept (now (bases .entry)) (now (other .entry)) ⌝ }
 {
     let a = put_decimal(number, out, 0);
     let b = put_byte(b'\t', out, a);
-    let c = put_body(kept, bases, other, out, b);
+    let c = put_body(kept, bases, flags, other, out, b);
     put_byte(b'\n', out, c)
 }
 

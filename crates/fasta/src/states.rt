@@ -2,6 +2,7 @@
 use crate::letters::add_letters;
 use crate::lines::line_end;
 use crate::reader::BASES;
+use crate::reader::FLAGS;
 use crate::reader::Reader;
 use crate::reader::Record;
 use crate::reader::Stepped;
@@ -9,18 +10,17 @@ use crate::rows::put_row;
 use crate::rows::put_text;
 use crate::rows::put_total;
 use std::num::wrapping_add_u64;
-ghost use mathlib.Core.List.{List};
-ghost use Prim.Native.Nat.{ℕ, _+_, _%_, _^_, _≤_, _<_};
+ghost use mathlib.Core.Path.{_≡_};
+ghost use Prim.Native.Nat.{_≤_, _<_};
 ghost use lib.ListN.{length};
-ghost use Rattle.codes.specs.Codes.{chars};
-ghost use Rattle.fasta.specs.Reads.{Steps};
-ghost use Rattle.fasta.specs.Rows.{Put, strandOf, closing};
+ghost use Rattle.fasta.specs.Steps.{stepped, onto, begun, inHeader, inLine, lineTrack, atLine, trackAfter, otherAfter, closed, marked};
 
 // Before any header.
 pub(crate) fn begin(part: &[u8], out: &mut [u8]) -> Stepped
     requires { ⌜ 0 < length (now part) ⌝ }
     requires { ⌜ 96 ≤ length (now out) ⌝ }
-    ensures { λ r. ⌜ ((bases : List ℕ) → Steps Reader.Start (now (part .entry)) bases (now (out .entry)) r bases (now (out .exit))) ⌝ }
+    ensures says { λ r. ⌜ r ≡ stepped (begun (now (part .entry))) ⌝ }
+    ensures out { λ _. ⌜ now (out .exit) ≡ onto (begun (now (part .entry)) .written) (now (out .entry)) ⌝ }
 {
     let first = part[0];
     if first == b'\n' {
@@ -47,8 +47,7 @@ pub(crate) fn begin(part: &[u8], out: &mut [u8]) -> Stepped
 
 // In a header line.
 pub(crate) fn in_header(number: u64, part: &[u8]) -> Stepped
-    requires { ⌜ 0 < length (now part) ⌝ }
-    ensures { λ r. ⌜ ((bases out : List ℕ) → Steps (Reader.Header number) (now (part .entry)) bases out r bases out) ⌝ }
+    ensures { λ r. ⌜ r ≡ stepped (inHeader number (now (part .entry))) ⌝ }
 {
     let end = line_end(part);
     if end == part.len() {
@@ -59,23 +58,25 @@ pub(crate) fn in_header(number: u64, part: &[u8]) -> Stepped
         };
     }
     Stepped {
-        reader: Reader::Fresh(Record {
-            number,
-            count: 0,
-            ambiguous: 0,
-        }),
+        reader: Reader::Fresh(Record { number, count: 0 }),
         used: end + 1,
         wrote: 0,
     }
 }
 
 // In a record, within a line.
-pub(crate) fn in_line(kept: Record, part: &[u8], bases: &mut [u8; BASES]) -> Stepped
-    requires { ⌜ 0 < length (now part) ⌝ }
-    ensures { λ r. ⌜ ((out : List ℕ) → Steps (Reader.Within kept) (now (part .entry)) (now (bases .entry)) out r (now (bases .exit)) out) ⌝ }
+pub(crate) fn in_line(
+    kept: Record,
+    part: &[u8],
+    bases: &mut [u8; BASES],
+    flags: &mut [u8; FLAGS],
+) -> Stepped
+    ensures says { λ r. ⌜ r ≡ stepped (inLine kept (now (part .entry))) ⌝ }
+    ensures bases { λ _. ⌜ now (bases .exit) ≡ lineTrack 2 kept (now (part .entry)) (now (bases .entry)) ⌝ }
+    ensures flags { λ _. ⌜ now (flags .exit) ≡ lineTrack 1 kept (now (part .entry)) (now (flags .entry)) ⌝ }
 {
     let end = line_end(part);
-    let longer = add_letters(kept, &part[..end], bases);
+    let longer = add_letters(kept, &part[..end], bases, flags);
     if end == part.len() {
         return Stepped {
             reader: Reader::Within(longer),
@@ -95,36 +96,44 @@ pub(crate) fn at_line(
     kept: Record,
     part: &[u8],
     bases: &mut [u8; BASES],
+    flags: &mut [u8; FLAGS],
     other: &mut [u8; BASES],
     out: &mut [u8],
 ) -> Stepped
     requires { ⌜ 0 < length (now part) ⌝ }
     requires { ⌜ 96 ≤ length (now out) ⌝ }
-    ensures { λ r. ⌜ Steps (Reader.Fresh kept) (now (part .entry)) (now (bases .entry)) (now (out .entry)) r (now (bases .exit)) (now (out .exit)) ⌝ }
+    ensures says { λ r. ⌜ r ≡ stepped (atLine kept (now (part .entry)) (now (bases .entry)) (now (flags .entry))) ⌝ }
+    ensures bases { λ _. ⌜ now (bases .exit) ≡ trackAfter 2 (Reader.Fresh kept) (now (part .entry)) (now (bases .entry)) ⌝ }
+    ensures flags { λ _. ⌜ now (flags .exit) ≡ trackAfter 1 (Reader.Fresh kept) (now (part .entry)) (now (flags .entry)) ⌝ }
+    ensures other { λ _. ⌜ now (other .exit) ≡ otherAfter (Reader.Fresh kept) (now (part .entry)) (now (bases .entry)) (now (other .entry)) ⌝ }
+    ensures out { λ _. ⌜ now (out .exit) ≡ onto (atLine kept (now (part .entry)) (now (bases .entry)) (now (flags .entry)) .written) (now (out .entry)) ⌝ }
 {
     if part[0] == b'>' {
         let number = wrapping_add_u64(kept.number, 1);
-        let wrote = put_row(number, kept, bases, other, out);
+        let wrote = put_row(number, kept, bases, flags, other, out);
         return Stepped {
             reader: Reader::Header(number),
             used: 1,
             wrote,
         };
     }
-    in_line(kept, part, bases)
+    in_line(kept, part, bases, flags)
 }
 
 // The last row and the total.
 pub(crate) fn close(
     kept: Record,
     bases: &[u8; BASES],
+    flags: &[u8; FLAGS],
     other: &mut [u8; BASES],
     out: &mut [u8],
 ) -> usize
     requires { ⌜ 96 ≤ length (now out) ⌝ }
-    ensures { λ r. ⌜ Put (now (out .entry)) 0 (closing ((kept .number + 1) % 2 ^ 64) (kept .count) (kept .ambiguous) (strandOf (chars 2 (now (bases .entry)) 0 (kept .count)))) (now (out .exit)) r ⌝ }
+    ensures says { λ r. ⌜ r ≡ length (closed kept (now (bases .entry)) (now (flags .entry))) ⌝ }
+    ensures other { λ _. ⌜ now (other .exit) ≡ marked kept (now (bases .entry)) (now (other .entry)) ⌝ }
+    ensures out { λ _. ⌜ now (out .exit) ≡ onto (closed kept (now (bases .entry)) (now (flags .entry))) (now (out .entry)) ⌝ }
 {
     let number = wrapping_add_u64(kept.number, 1);
-    let at = put_row(number, kept, bases, other, out);
+    let at = put_row(number, kept, bases, flags, other, out);
     put_total(number, out, at)
 }

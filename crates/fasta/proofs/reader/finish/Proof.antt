@@ -1,8 +1,10 @@
--- Each state's law. Assumes nothing.
-use mathlib.Core.Path.{sym, subst}
-use Rattle.fasta.specs.Reads.{Finishes}
-use Rattle.fasta.specs.declared.reader.Reader.{Reader}
-use Rattle.fasta.proofs.FinishLaws.{finishes-none, finishes-start, finishes-header, finishes-fresh, finishes-within, finishes-ended}
+-- Each state's own lines. Assumes nothing.
+use mathlib.Core.Path.{refl}
+use native.Mathlib.Omega.{arith}
+use Rattle.fasta.specs.declared.reader.Reader.the-variants as Reader
+use Rattle.fasta.proofs.CaseLaws.{ends-in, ends-none}
+use Rattle.fasta.proofs.RowLaws.{total-length}
+use Rattle.fasta.proofs.SetsLaws.{put-place, put-onto}
 use borrow.Author.Needs.{needs}
 use Rattle.fasta.proofs.reader.finish.Statement.{statement}
 use Rattle.fasta.proofs.reader.finish.Tie as tie
@@ -10,7 +12,7 @@ use Rattle.fasta.proofs.reader.finish.Tie as tie
 returns : tie.Need-returns
 returns c =
     let a = c .before .before .args in
-    finishes-none (a .reader) (a .bases .now) (a .out .now) (c .if1 .taken)
+    ends-none (a .reader) (a .bases .now) (a .flags .now) (a .other .now) (a .out .now) (c .if1 .taken)
 
 enum-told : tie.Need-enum-told
 enum-told c = search needs
@@ -48,8 +50,7 @@ returns-2 c =
     let r = k .before .before in
     let e = r .before .before in
     let a = e .before .before .args in
-    subst (λ (x : Reader). Finishes x (a .bases .now) (a .out .now) (k .put-total .result) (k .put-total .last .1 .0)) (sym (r .enum-told .given .1))
-    (finishes-start (a .bases .now) (a .out .now) (k .put-total .last .1 .0) (k .put-total .result) (e .if1 .left) (k .put-total .ensures))
+    ends-in (a .bases .now) (a .flags .now) (a .other .now) (a .out .now) (k .put-total .result) _ _ (a .reader) Reader.Start (r .enum-told .given .1) (e .if1 .left) (put-place (k .put-total .ensures), (refl, put-onto (k .put-total .ensures) (omega (arith, e .if1 .left, total-length 0))))
 
 same-length-2 : tie.Need-same-length-2
 same-length-2 c = search needs
@@ -60,8 +61,7 @@ returns-3 c =
     let r = k .before .before .before .before in
     let e = r .before .before in
     let a = e .before .before .args in
-    subst (λ (x : Reader). Finishes x (a .bases .now) (a .out .now) (k .close .result) (k .close .last .1 .1 .1 .0)) (sym (r .reader .given .1))
-    (finishes-header (a .bases .now) (a .out .now) (k .close .last .1 .1 .1 .0) (k .close .result) (e .if1 .left) _ (k .close .ensures))
+    ends-in (a .bases .now) (a .flags .now) (a .other .now) (a .out .now) (k .close .result) _ _ (a .reader) (Reader.Header _) (r .reader .given .1) (e .if1 .left) (k .close .ensures)
 
 same-length-3 : tie.Need-same-length-3
 same-length-3 c = search needs
@@ -72,8 +72,7 @@ returns-4 c =
     let r = k .before .before .before .before in
     let e = r .before .before in
     let a = e .before .before .args in
-    subst (λ (x : Reader). Finishes x (a .bases .now) (a .out .now) (k .close2 .result) (k .close2 .last .1 .1 .1 .0)) (sym (r .reader2 .given .1))
-    (finishes-fresh (a .bases .now) (a .out .now) (k .close2 .last .1 .1 .1 .0) (k .close2 .result) (e .if1 .left) _ (k .close2 .ensures))
+    ends-in (a .bases .now) (a .flags .now) (a .other .now) (a .out .now) (k .close2 .result) _ _ (a .reader) (Reader.Fresh _) (r .reader2 .given .1) (e .if1 .left) (k .close2 .ensures)
 
 same-length-4 : tie.Need-same-length-4
 same-length-4 c = search needs
@@ -84,13 +83,13 @@ returns-5 c =
     let r = k .before .before .before .before in
     let e = r .before .before in
     let a = e .before .before .args in
-    subst (λ (x : Reader). Finishes x (a .bases .now) (a .out .now) (k .close3 .result) (k .close3 .last .1 .1 .1 .0)) (sym (r .reader3 .given .1))
-    (finishes-within (a .bases .now) (a .out .now) (k .close3 .last .1 .1 .1 .0) (k .close3 .result) (e .if1 .left) _ (k .close3 .ensures))
+    ends-in (a .bases .now) (a .flags .now) (a .other .now) (a .out .now) (k .close3 .result) _ _ (a .reader) (Reader.Within _) (r .reader3 .given .1) (e .if1 .left) (k .close3 .ensures)
 
 returns-6 : tie.Need-returns-6
 returns-6 c =
-    let a = c .before .before .before .before .args in
-    subst (λ (x : Reader). Finishes x (a .bases .now) (a .out .now) 0 (a .out .now)) (sym (c .enum-told2 .given .1)) (finishes-ended (a .bases .now) (a .out .now))
+    let e = c .before .before in
+    let a = e .before .before .args in
+    ends-in (a .bases .now) (a .flags .now) (a .other .now) (a .out .now) 0 _ _ (a .reader) Reader.Ended (c .enum-told2 .given .1) (e .if1 .left) (refl, (refl, refl))
 
 pub finish-spec : {M : Type 1} → statement M
 finish-spec =

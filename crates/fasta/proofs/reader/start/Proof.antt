@@ -1,14 +1,17 @@
 -- The heading stands at the front. Assumes nothing.
-use mathlib.Core.Path.{refl}
-use native.Mathlib.Omega.{arith}
-use Rattle.fasta.specs.Report.{heading}
-use Rattle.fasta.proofs.StepLaws.{put-inside, put-front, put-behind}
+use mathlib.Core.Path.{ap}
+use Prim.Native.Nat.{ℕ}
 use borrow.Author.Needs.{needs}
+use borrow.Author.Tests.{lt-ltb, le-ltb}
+use Rattle.fasta.specs.Steps.{started}
+use Rattle.fasta.specs.declared.reader.Reader.the-variants as Reader
+use Rattle.fasta.proofs.SetsLaws.{put-place, put-onto}
 use Rattle.fasta.proofs.reader.start.Statement.{statement}
 use Rattle.fasta.proofs.reader.start.Tie as tie
 
 returns : tie.Need-returns
-returns c = record { reader = refl; wrote = omega arith; kept = refl; says = λ m. absurd (omega arith) }
+unfolding started
+returns c = (rw (lt-ltb _ 96 (c .if1 .taken)), rw (lt-ltb _ 96 (c .if1 .taken)))
 
 slice-aggregate-put-text : tie.Need-slice-aggregate-put-text
 slice-aggregate-put-text c = search needs
@@ -20,16 +23,14 @@ same-length : tie.Need-same-length
 same-length c = search needs
 
 returns-2 : tie.Need-returns-2
+unfolding started
 returns-2 c =
     let k = c .before .before in
-    let o = k .before .before .before .before .before .args .out .now in
-    let p = k .put-text .ensures in
-    record {
-      reader = refl;
-      wrote = put-inside o heading (k .put-text .last .1 .0) (k .put-text .result) p (search needs);
-      kept = put-behind o heading (k .put-text .last .1 .0) (k .put-text .result) p (search needs);
-      says = λ m. put-front o heading (k .put-text .last .1 .0) (k .put-text .result) p (omega arith);
-    }
+    let e = k .before .before .before in
+    let p = k .put-text .ensures in (
+      rw (le-ltb _ 96 (e .if1 .left)) (ap (λ (n : ℕ). record { reader = Reader.Start; used = 0; wrote = n }) (put-place p)),
+      rw (le-ltb _ 96 (e .if1 .left)) (put-onto p (search needs)),
+    )
 
 pub start-spec : {M : Type 1} → statement M
 start-spec =

@@ -1,11 +1,10 @@
 -- Each state's own function. Assumes nothing.
-use mathlib.Core.Path.{sym, subst}
+use mathlib.Core.Path.{_≡_, refl}
 use native.Mathlib.Omega.{arith}
-use lib.ListN.{length}
-use Rattle.fasta.specs.Reads.{Steps}
-use Rattle.fasta.specs.declared.reader.Reader.{Reader}
+use Rattle.fasta.specs.Steps.{trackAfter, otherAfter, inHeader, inLine}
 use Rattle.fasta.specs.declared.reader.Reader.the-variants as Reader
-use Rattle.fasta.proofs.StepLaws.{steps-none, steps-ended}
+use Rattle.fasta.proofs.BoundLaws.{seen-empty, seen-none}
+use Rattle.fasta.proofs.CaseLaws.{in-state, idle}
 use borrow.Author.Needs.{needs}
 use Rattle.fasta.proofs.reader.step.Statement.{statement}
 use Rattle.fasta.proofs.reader.step.Tie as tie
@@ -13,12 +12,12 @@ use Rattle.fasta.proofs.reader.step.Tie as tie
 returns : tie.Need-returns
 returns c =
     let a = c .before .before .before .args in
-    steps-none (a .reader) (a .part .now) (a .bases .now) (a .out .now) (λ h m. omega arith)
+    idle (a .reader) (a .part .now) (a .bases .now) (a .flags .now) (a .other .now) (a .out .now) (seen-empty (a .part .now) (a .out .now) (c .if1 .taken))
 
 returns-2 : tie.Need-returns-2
 returns-2 c =
     let a = c .before .before .before .before .args in
-    steps-none (a .reader) (a .part .now) (a .bases .now) (a .out .now) (λ h m. omega arith)
+    idle (a .reader) (a .part .now) (a .bases .now) (a .flags .now) (a .other .now) (a .out .now) (seen-none (a .part .now) (a .out .now) (c .if2 .taken))
 
 enum-told : tie.Need-enum-told
 enum-told c = search needs
@@ -51,17 +50,21 @@ same-length : tie.Need-same-length
 same-length c = search needs
 
 returns-3 : tie.Need-returns-3
+unfolding trackAfter otherAfter
 returns-3 c =
     let b = c .before .before in
     let k = b .before .before in
-    let a = k .before .before .before .before .before .before .args in
-    subst (λ (x : Reader). Steps x (a .part .now) (a .bases .now) (a .out .now) (b .begin .result) (a .bases .now) (b .begin .last .1 .0)) (sym (k .enum-told .given .1)) (b .begin .ensures (a .bases .now))
+    let e = k .before .before in
+    let a = e .before .before .before .before .args in
+    in-state (a .part .now) (a .bases .now) (a .flags .now) (a .other .now) (a .out .now) (b .begin .result) _ _ _ _ (a .reader) Reader.Start (k .enum-told .given .1) (omega arith) (e .if2 .left) (b .begin .ensures .0, (refl, (refl, (refl, b .begin .ensures .1))))
 
 returns-4 : tie.Need-returns-4
+unfolding trackAfter otherAfter inHeader
 returns-4 c =
     let k = c .before .before in
-    let a = k .before .before .before .before .before .before .args in
-    subst (λ (x : Reader). Steps x (a .part .now) (a .bases .now) (a .out .now) (c .in-header .result) (a .bases .now) (a .out .now)) (sym (k .reader .given .1)) (c .in-header .ensures (a .bases .now) (a .out .now))
+    let e = k .before .before in
+    let a = e .before .before .before .before .args in
+    in-state (a .part .now) (a .bases .now) (a .flags .now) (a .other .now) (a .out .now) (c .in-header .result) _ _ _ _ (a .reader) (Reader.Header _) (k .reader .given .1) (omega arith) (e .if2 .left) (c .in-header .ensures, (refl, (refl, (refl, refl))))
 
 same-length-2 : tie.Need-same-length-2
 same-length-2 c = search needs
@@ -69,20 +72,26 @@ same-length-2 c = search needs
 returns-5 : tie.Need-returns-5
 returns-5 c =
     let b = c .before .before in
-    let k = b .before .before .before .before .before in
-    let a = k .before .before .before .before .before .before .args in
-    subst (λ (x : Reader). Steps x (a .part .now) (a .bases .now) (a .out .now) (b .at-line .result) (b .at-line .last .1 .1 .0) (b .at-line .last .1 .1 .1 .1 .0)) (sym (k .reader2 .given .1)) (b .at-line .ensures)
+    let k = b .before .before .before .before .before .before in
+    let e = k .before .before in
+    let a = e .before .before .before .before .args in
+    in-state (a .part .now) (a .bases .now) (a .flags .now) (a .other .now) (a .out .now) (b .at-line .result) _ _ _ _ (a .reader) (Reader.Fresh _) (k .reader2 .given .1) (omega arith) (e .if2 .left) (b .at-line .ensures)
 
 returns-6 : tie.Need-returns-6
+unfolding trackAfter otherAfter inLine
 returns-6 c =
-    let k = c .before .before .before in
-    let a = k .before .before .before .before .before .before .args in
-    subst (λ (x : Reader). Steps x (a .part .now) (a .bases .now) (a .out .now) (c .in-line .result) (c .in-line .last .1 .1 .0) (a .out .now)) (sym (k .reader3 .given .1)) (c .in-line .ensures (a .out .now))
+    let k = c .before .before .before .before in
+    let e = k .before .before in
+    let a = e .before .before .before .before .args in
+    let p = c .in-line .ensures in
+    in-state (a .part .now) (a .bases .now) (a .flags .now) (a .other .now) (a .out .now) (c .in-line .result) _ _ _ _ (a .reader) (Reader.Within _) (k .reader3 .given .1) (omega arith) (e .if2 .left) (p .0, (p .1 .0, (p .1 .1, (refl, refl))))
 
 returns-7 : tie.Need-returns-7
+unfolding trackAfter otherAfter
 returns-7 c =
-    let a = c .before .before .before .before .before .before .args in
-    subst (λ (x : Reader). Steps x (a .part .now) (a .bases .now) (a .out .now) (record { reader = Reader.Ended; used = length (a .part .now); wrote = 0 }) (a .bases .now) (a .out .now)) (sym (c .enum-told2 .given .1)) (steps-ended (a .part .now) (a .bases .now) (a .out .now) (omega arith))
+    let e = c .before .before in
+    let a = e .before .before .before .before .args in
+    in-state (a .part .now) (a .bases .now) (a .flags .now) (a .other .now) (a .out .now) _ _ _ _ _ (a .reader) Reader.Ended (c .enum-told2 .given .1) (omega arith) (e .if2 .left) (refl, (refl, (refl, (refl, refl))))
 
 pub step-spec : {M : Type 1} → statement M
 step-spec =

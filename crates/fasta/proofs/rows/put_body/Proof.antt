@@ -1,7 +1,8 @@
 -- The definition's two cases. Assumes nothing.
-use mathlib.Core.Path.{ap, _∙_}
+use mathlib.Core.Path.{ap, ap₂, _∙_}
+use Prim.Native.Nat.{ℕ}
 use Rattle.fasta.specs.Rows.{columns}
-use Rattle.fasta.proofs.RowLaws.{body-long, body-short, put-as}
+use Rattle.fasta.proofs.RowLaws.{body-long, body-short, put-as, marked-long, marked-short}
 use borrow.Author.Needs.{needs}
 use Rattle.fasta.proofs.rows.put_body.Statement.{statement}
 use Rattle.fasta.proofs.rows.put_body.Tie as tie
@@ -19,8 +20,11 @@ returns : tie.Need-returns
 returns c =
     let k = c .before .before in
     let t = k .before .before .before in
-    let a = t .before .before .args .kept in
-    put-as (body-long (a .count) (a .ambiguous) _ (t .if1 .taken)) (k .put-text .ensures)
+    let a = t .before .before .args in
+    (put-as (body-long (a .kept .count) _ _ (t .if1 .taken)) (k .put-text .ensures), marked-long (a .kept) (a .bases .now) (a .other .now) (t .if1 .taken))
+
+set-flags-requires : tie.Need-set-flags-requires
+set-flags-requires c κs = search needs
 
 strand-requires : tie.Need-strand-requires
 strand-requires c κs = search needs
@@ -35,9 +39,12 @@ returns-2 : tie.Need-returns-2
 returns-2 c =
     let k = c .before .before in
     let t = k .before .before in
-    let e = t .before .before in
-    let a = e .before .before .args .kept in
-    put-as (ap (columns (a .count) (a .ambiguous)) (t .strand .ensures) ∙ body-short (a .count) (a .ambiguous) _ (e .if1 .left)) (k .put-columns .ensures)
+    let f = t .before .before in
+    let e = f .before in
+    let a = e .before .before .args in (
+      put-as (ap₂ (columns (a .kept .count)) (f .set-flags .ensures) (t .strand .ensures .0) ∙ body-short (a .kept .count) _ _ (e .if1 .left)) (k .put-columns .ensures),
+      t .strand .ensures .1 ∙ marked-short (a .kept) (a .bases .now) (a .other .now) (e .if1 .left),
+    )
 
 pub put-body-spec : {M : Type 1} → statement M
 put-body-spec =
@@ -47,6 +54,7 @@ put-body-spec =
     put-text-requires
     same-length
     returns
+    set-flags-requires
     strand-requires
     put-columns-requires
     same-length-2

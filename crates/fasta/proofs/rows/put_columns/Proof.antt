@@ -11,14 +11,14 @@ use Rattle.fasta.proofs.rows.put_columns.Tie as tie
 
 -- the room left after each put
 room-1 : (d : tie.After-put-decimal) → d .put-decimal .result + 23 ≤ length (d .put-decimal .last .1 .0)
-room-1 d = omega (arith, put-length (d .put-decimal .ensures), d .put-decimal .ensures .behind, decimal-length 20 (d .before .before .before .args .kept .count))
+room-1 d = omega (arith, put-length (d .put-decimal .ensures), d .put-decimal .ensures .behind, decimal-length 20 (d .before .before .before .args .count))
 
 room-2 : (d : tie.After-put-byte) → d .put-byte .result + 22 ≤ length (d .put-byte .last .1 .0)
 room-2 d = omega (arith, room-1 (d .before .before .before .before), put-length (d .put-byte .ensures), d .put-byte .ensures .behind)
 
 room-3 : (d : tie.After-put-decimal2) → d .put-decimal2 .result + 2 ≤ length (d .put-decimal2 .last .1 .0)
 room-3 d =
-    omega (arith, room-2 (d .before .before .before .before), put-length (d .put-decimal2 .ensures), d .put-decimal2 .ensures .behind, decimal-length 20 (d .before .before .before .before .before .before .before .before .before .before .before .args .kept .ambiguous))
+    omega (arith, room-2 (d .before .before .before .before), put-length (d .put-decimal2 .ensures), d .put-decimal2 .ensures .behind, decimal-length 20 (d .before .before .before .before .before .before .before .before .before .before .before .args .ambiguous))
 
 put-decimal-requires : tie.Need-put-decimal-requires
 put-decimal-requires c κs = search needs

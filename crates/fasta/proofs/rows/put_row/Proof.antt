@@ -3,7 +3,7 @@ use Prim.Native.Nat.{_+_, _≤_}
 use native.Mathlib.Omega.{arith}
 use lib.ListN.{length}
 use Rattle.codes.specs.Codes.{chars}
-use Rattle.fasta.specs.Rows.{strandOf, rowOf}
+use Rattle.fasta.specs.Rows.{setFlags, strandOf, rowOf}
 use Rattle.fasta.proofs.DecimalLaws.{decimal-length}
 use Rattle.fasta.proofs.RowLaws.{body-length}
 use Rattle.fasta.proofs.SetsLaws.{put-then, put-length}
@@ -32,7 +32,7 @@ put-byte-requires-2 c κs =
     let p3 = c .before .before .before in
     let p2 = p3 .before .before .before .before .before in
     let a = p2 .before .before .before .before .before .before .before .args in
-    omega (arith, room-2 p2, put-length (p3 .put-body .ensures), p3 .put-body .ensures .behind, body-length (a .kept .count) (a .kept .ambiguous) (strandOf (chars 2 (a .bases .now) 0 (a .kept .count))))
+    omega (arith, room-2 p2, put-length (p3 .put-body .ensures .0), p3 .put-body .ensures .0 .behind, body-length (a .kept .count) (setFlags (chars 1 (a .flags .now) 0 (a .kept .count))) (strandOf (chars 2 (a .bases .now) 0 (a .kept .count))))
 
 same-length : tie.Need-same-length
 same-length c = search needs
@@ -44,7 +44,7 @@ returns c =
     let p3 = p4 .before .before .before .before in
     let p2 = p3 .before .before .before .before .before in
     let p1 = p2 .before .before .before .before in
-    put-then (p1 .put-decimal .ensures) (put-then (p2 .put-byte .ensures) (put-then (p3 .put-body .ensures) (p4 .put-byte2 .ensures)))
+    (put-then (p1 .put-decimal .ensures) (put-then (p2 .put-byte .ensures) (put-then (p3 .put-body .ensures .0) (p4 .put-byte2 .ensures))), p3 .put-body .ensures .1)
 
 pub put-row-spec : {M : Type 1} → statement M
 put-row-spec =

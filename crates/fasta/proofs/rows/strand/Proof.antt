@@ -3,13 +3,13 @@ use mathlib.Core.Path.{_≡_, sym, ap, _∙_}
 use borrow.Author.Needs.{needs}
 use Rattle.codes.specs.Codes.{chars}
 use Rattle.order.specs.Order.{compare}
-use Rattle.views.specs.Views.{flipped}
+use Rattle.views.specs.Views.{flipped, flippedOver}
 use Rattle.order.specs.declared.answers.Order.{Order}
 use Rattle.order.specs.declared.answers.Order.the-variants.{Less, Equal, Greater}
 use Rattle.order.specs.declared.answers.Ordered.the-variants as Ordered
 use Rattle.fasta.specs.Report.{sign}
 use Rattle.fasta.specs.Rows.{strandOf}
-use Rattle.fasta.proofs.StrandLaws.{strand-order, is-order, never-refused}
+use Rattle.fasta.proofs.StrandLaws.{flip-left, strand-order, is-order, never-refused}
 use Rattle.fasta.proofs.rows.strand.Statement.{statement}
 use Rattle.fasta.proofs.rows.strand.Tie as tie
 
@@ -23,11 +23,16 @@ module _ (c : tie.After-cmp) where
   order : Order
   order = compare (chars 2 (s .args .bases .now) 0 (s .args .count)) (flipped 2 (chars 2 (s .args .bases .now) 0 (s .args .count)))
 
+  left : t .to-revcomp .last .1 .1 .1 .0 ≡ flippedOver 2 (s .args .bases .now) 0 (s .args .count) (s .args .other .now)
+  left =
+      flip-left (s .args .bases .now) (s .args .other .now) (s .args .count) (s .pre) (search needs) (search needs) (t .to-revcomp .result) _ _ _
+      (t .before .before .before .before .new .ensures) (t .before .before .before .new2 .ensures) (t .to-revcomp .ensures .0) (t .to-revcomp .ensures .1)
+
   right : c .cmp .result ≡ Ordered.Is order
   unfolding order
   right =
-      strand-order (s .args .bases .now) (s .args .other .now) (s .args .count) (s .pre) (search needs) (search needs) (c .cmp .result) (t .to-revcomp .result) _ _ _
-      (t .before .before .before .before .new .ensures) (t .before .before .before .new2 .ensures) (t .to-revcomp .ensures .0) (t .to-revcomp .ensures .1) (t .to-revcomp .kept .1 .1 .1 .0) (c .cmp .ensures)
+      strand-order (s .args .bases .now) (s .args .other .now) (s .args .count) (s .pre) (search needs) (search needs) (t .to-revcomp .result) _ _ _
+      (t .before .before .before .before .new .ensures) (t .before .before .before .new2 .ensures) (t .to-revcomp .ensures .0) (t .to-revcomp .ensures .1) (c .cmp .result) (t .to-revcomp .kept .1 .1 .1 .0) (c .cmp .ensures)
 
 new-requires : tie.Need-new-requires
 new-requires c κs = search needs
@@ -62,13 +67,13 @@ unfolding order strandOf
 found c o p e f = ap sign (sym f ∙ is-order (c .cmp .result) o (order c) e (right c))
 
 returns : tie.Need-returns
-returns c = found (c .before .before .before .before .before) _ Less (c .before .before .before .order .given .1) (c .enum-told .given .1)
+returns c = (found (c .before .before .before .before .before) _ Less (c .before .before .before .order .given .1) (c .enum-told .given .1), left (c .before .before .before .before .before))
 
 returns-2 : tie.Need-returns-2
-returns-2 c = found (c .before .before .before .before .before) _ Equal (c .before .before .before .order .given .1) (c .enum-told2 .given .1)
+returns-2 c = (found (c .before .before .before .before .before) _ Equal (c .before .before .before .order .given .1) (c .enum-told2 .given .1), left (c .before .before .before .before .before))
 
 returns-3 : tie.Need-returns-3
-returns-3 c = found (c .before .before .before .before .before) _ Greater (c .before .before .before .order .given .1) (c .enum-told3 .given .1)
+returns-3 c = (found (c .before .before .before .before .before) _ Greater (c .before .before .before .order .given .1) (c .enum-told3 .given .1), left (c .before .before .before .before .before))
 
 returns-4 : tie.Need-returns-4
 returns-4 c = absurd (never-refused (c .before .before .cmp .result) _ (order (c .before .before)) (c .enum-told4 .given .1) (right (c .before .before)))

@@ -1,5 +1,5 @@
 -- A `>` closes the record; any other byte is the first of a line of letters. Assumes nothing.
-use Rattle.fasta.proofs.StepLaws.{steps-next, steps-letters}
+use Rattle.fasta.proofs.CaseLaws.{closes, goes-on}
 use borrow.Author.Needs.{needs}
 use Rattle.fasta.proofs.states.at_line.Statement.{statement}
 use Rattle.fasta.proofs.states.at_line.Tie as tie
@@ -19,19 +19,21 @@ same-length c = search needs
 returns : tie.Need-returns
 returns c =
     let k = c .before .before in
-    let w = k .before .before .before .before in
+    let w = k .before .before .before .before .before in
     let t = w .before in
     let s = t .before .before .before .before in
-    steps-next (s .args .part .now) (s .args .bases .now) (s .args .out .now) (s .pre .0) (s .pre .1) (s .args .kept) (w .wrapping-add-u64 .result) _ _ (t .if1 .taken) (w .wrapping-add-u64 .ensures) (k .put-row .ensures)
+    let a = s .args in
+    closes (a .kept) (a .part .now) (a .bases .now) (a .flags .now) (a .other .now) (a .out .now) (s .pre .0) (w .wrapping-add-u64 .result) (k .put-row .result) _ _ (t .if1 .taken) (s .pre .1) (w .wrapping-add-u64 .ensures) (k .put-row .ensures .0) (k .put-row .ensures .1)
 
 in-line-requires : tie.Need-in-line-requires
 in-line-requires c κs = search needs
 
 returns-2 : tie.Need-returns-2
 returns-2 c =
-    let e = c .before .before in
+    let e = c .before .before .before in
     let s = e .before .before .before .before in
-    steps-letters (s .args .part .now) (s .args .bases .now) (s .args .out .now) (s .pre .0) (s .pre .1) (s .args .kept) (c .in-line .result) _ _ (e .if1 .left) (c .in-line .ensures (s .args .out .now))
+    let a = s .args in
+    goes-on (a .kept) (a .part .now) (a .bases .now) (a .flags .now) (a .other .now) (a .out .now) (s .pre .0) (c .in-line .result) _ _ (e .if1 .left) (c .in-line .ensures)
 
 pub at-line-spec : {M : Type 1} → statement M
 at-line-spec =

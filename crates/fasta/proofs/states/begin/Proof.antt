@@ -1,6 +1,11 @@
 -- The first byte decides. Assumes nothing.
-use Rattle.fasta.proofs.StepLaws.{steps-blank, steps-open, steps-refused}
+use mathlib.Core.Path.{ap}
+use Prim.Native.Nat.{ℕ}
 use borrow.Author.Needs.{needs}
+use borrow.Author.Tests.{eq-eqb, ne-eqb}
+use Rattle.fasta.specs.Steps.{begun}
+use Rattle.fasta.specs.declared.reader.Reader.the-variants as Reader
+use Rattle.fasta.proofs.SetsLaws.{put-place, put-onto}
 use Rattle.fasta.proofs.states.begin.Statement.{statement}
 use Rattle.fasta.proofs.states.begin.Tie as tie
 
@@ -8,14 +13,15 @@ shared-slice-read-first : tie.Need-shared-slice-read-first
 shared-slice-read-first c = search needs
 
 returns : tie.Need-returns
-returns c =
-    let s = c .before .before .before .before in
-    λ bases. steps-blank (s .args .part .now) bases (s .args .out .now) (s .pre .0) (c .if1 .taken)
+unfolding begun
+returns c = (rw (eq-eqb _ 10 (c .if1 .taken)), rw (eq-eqb _ 10 (c .if1 .taken)))
 
 returns-2 : tie.Need-returns-2
-returns-2 c =
-    let s = c .before .before .before .before .before in
-    λ bases. steps-open (s .args .part .now) bases (s .args .out .now) (s .pre .0) (c .if2 .taken)
+unfolding begun
+returns-2 c = (
+  rw (ne-eqb _ 10 (c .before .if1 .left), eq-eqb _ 62 (c .if2 .taken)),
+  rw (ne-eqb _ 10 (c .before .if1 .left), eq-eqb _ 62 (c .if2 .taken)),
+)
 
 slice-aggregate-put-text : tie.Need-slice-aggregate-put-text
 slice-aggregate-put-text c = search needs
@@ -27,11 +33,14 @@ same-length : tie.Need-same-length
 same-length c = search needs
 
 returns-3 : tie.Need-returns-3
+unfolding begun
 returns-3 c =
     let k = c .before .before in
     let e = k .before .before .before in
-    let s = e .before .before .before .before .before in
-    λ bases. steps-refused (s .args .part .now) bases (s .args .out .now) (s .pre .0) (s .pre .1) _ _ (e .before .if1 .left) (e .if2 .left) (k .put-text .ensures)
+    let p = k .put-text .ensures in (
+      rw (ne-eqb _ 10 (e .before .if1 .left), ne-eqb _ 62 (e .if2 .left)) (ap (λ (n : ℕ). record { reader = Reader.Ended; used = 1; wrote = n }) (put-place p)),
+      rw (ne-eqb _ 10 (e .before .if1 .left), ne-eqb _ 62 (e .if2 .left)) (put-onto p (search needs)),
+    )
 
 pub begin-spec : {M : Type 1} → statement M
 begin-spec =

@@ -1,11 +1,12 @@
 -- Two puts, one after the other. Assumes nothing.
-use mathlib.Core.Path.{ap}
-use Prim.Native.Nat.{ℕ}
 use native.Mathlib.Omega.{arith}
 use Rattle.codes.specs.Codes.{chars}
-use Rattle.fasta.specs.Rows.{strandOf, closing}
-use Rattle.fasta.proofs.RowLaws.{row-length, put-as}
-use Rattle.fasta.proofs.SetsLaws.{put-then, put-length}
+use Rattle.fasta.specs.Rows.{Put, setFlags, strandOf}
+use Rattle.fasta.specs.Steps.{closed}
+use Rattle.fasta.proofs.BoundLaws.{closed-length}
+use Rattle.fasta.proofs.CaseLaws.{closed-put}
+use Rattle.fasta.proofs.RowLaws.{row-length}
+use Rattle.fasta.proofs.SetsLaws.{put-length, put-place, put-onto}
 use borrow.Author.Needs.{needs}
 use Rattle.fasta.proofs.states.close.Statement.{statement}
 use Rattle.fasta.proofs.states.close.Tie as tie
@@ -22,20 +23,20 @@ put-total-requires c κs =
     let w = p .before .before .before in
     let s = w .before .before in
     let a = s .args in
-    omega (arith, s .pre, put-length (p .put-row .ensures), p .put-row .ensures .behind, row-length (w .wrapping-add-u64 .result) (a .kept .count) (a .kept .ambiguous) (strandOf (chars 2 (a .bases .now) 0 (a .kept .count))))
+    omega (arith, s .pre, put-length (p .put-row .ensures .0), p .put-row .ensures .0 .behind, row-length (w .wrapping-add-u64 .result) (a .kept .count) (setFlags (chars 1 (a .flags .now) 0 (a .kept .count))) (strandOf (chars 2 (a .bases .now) 0 (a .kept .count))))
 
 same-length : tie.Need-same-length
 same-length c = search needs
 
 returns : tie.Need-returns
-unfolding closing
 returns c =
     let t = c .before .before in
     let p = t .before .before .before .before in
     let w = p .before .before .before in
-    let a = w .before .before .args in
-    put-as (ap (λ (m : ℕ). closing m (a .kept .count) (a .kept .ambiguous) (strandOf (chars 2 (a .bases .now) 0 (a .kept .count)))) (w .wrapping-add-u64 .ensures))
-    (put-then (p .put-row .ensures) (t .put-total .ensures))
+    let s = w .before .before in
+    let a = s .args in
+    let q = closed-put (a .kept) (a .bases .now) (a .flags .now) (a .out .now) (w .wrapping-add-u64 .result) _ _ _ _ (w .wrapping-add-u64 .ensures) (p .put-row .ensures .0) (t .put-total .ensures) in
+    (put-place q, (p .put-row .ensures .1, put-onto q (omega (arith, s .pre, closed-length (a .kept) (a .bases .now) (a .flags .now)))))
 
 pub close-spec : {M : Type 1} → statement M
 close-spec =

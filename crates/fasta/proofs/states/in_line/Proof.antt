@@ -1,38 +1,61 @@
 -- The line ends in this part, or it does not. Assumes nothing.
-use mathlib.Core.Path.{sym}
+use mathlib.Core.List.{List}
+use mathlib.Core.Path.{_≡_, sym, ap, ap₂, _∙_}
+use Prim.Native.Nat.{ℕ, _+_}
 use native.Mathlib.Omega.{arith}
+use lib.ListN.{take}
 use lib.Seq.{length-take-le}
-use Rattle.fasta.proofs.StepLaws.{steps-within, steps-within-end}
+use Rattle.stores.specs.Stores.{pushAscii, after}
+use Rattle.fasta.specs.Steps.{lineEnd, lengthened, inLine, lineTrack}
+use Rattle.fasta.specs.declared.reader.Record.{Record}
+use Rattle.fasta.specs.declared.reader.Reader.the-variants as Reader
+use Rattle.fasta.proofs.LineLaws.{line-end, line-open, line-ends, line-length}
 use borrow.Author.Needs.{needs}
 use Rattle.fasta.proofs.states.in_line.Statement.{statement}
 use Rattle.fasta.proofs.states.in_line.Tie as tie
+
+module _ (c : tie.After-add-letters) where
+  abbrev l : tie.After-line-end
+  l = c .before .before .before .before
+
+  abbrev start : tie.Start
+  start = l .before .before
+
+  end : l .line-end .result ≡ lineEnd (start .args .part .now)
+  end = l .line-end .ensures
+
+  longer : c .add-letters .result ≡ lengthened (start .args .kept) (lineEnd (start .args .part .now))
+  longer = c .add-letters .ensures .0 ∙ ap (lengthened (start .args .kept)) (line-length (start .args .part .now) _ end)
+
+  tracks : (c .add-letters .last .1 .1 .0 ≡ lineTrack 2 (start .args .kept) (start .args .part .now) (start .args .bases .now)) × (c .add-letters .last .1 .1 .1 .0 ≡ lineTrack 1 (start .args .kept) (start .args .part .now) (start .args .flags .now))
+  unfolding lineTrack
+  tracks = (
+    c .add-letters .ensures .1 .0 ∙ ap (λ (n : ℕ). after 2 (start .args .bases .now) (start .args .kept .count) (pushAscii (take n (start .args .part .now)))) end,
+    c .add-letters .ensures .1 .1 ∙ ap (λ (n : ℕ). after 1 (start .args .flags .now) (start .args .kept .count) (pushAscii (take n (start .args .part .now)))) end,
+  )
 
 line-end-requires : tie.Need-line-end-requires
 line-end-requires c κs = search needs
 
 slice-aggregate-add-letters : tie.Need-slice-aggregate-add-letters
-slice-aggregate-add-letters c = sym (length-take-le (c .before .line-end .result) (c .before .before .before .args .part .now) (c .before .line-end .ensures .inside))
+slice-aggregate-add-letters c =
+    let l = c .before in
+    let p = l .before .before .args .part .now in
+    sym (length-take-le (l .line-end .result) p (omega (arith, l .line-end .ensures, line-end p .inside)))
 
 add-letters-requires : tie.Need-add-letters-requires
 add-letters-requires c κs = search needs
 
 returns : tie.Need-returns
-returns c =
-    let g = c .before in
-    let l = g .before .before .before in
-    let s = l .before .before in
-    λ out. steps-within (s .args .part .now) (s .args .bases .now) out (s .pre) (s .args .kept) (g .add-letters .result) _ (l .line-end .result) (l .line-end .ensures) (g .add-letters .ensures) (c .if1 .taken)
+unfolding inLine
+returns c = (rw (line-open (start (c .before) .args .part .now) _ (end (c .before)) (c .if1 .taken)) (ap₂ (λ (k : Record) (n : ℕ). record { reader = Reader.Within k; used = n; wrote = 0 }) (longer (c .before)) (end (c .before))), tracks (c .before))
 
-add-t9 : tie.Need-add-t9
-add-t9 c = search needs
+add-t11 : tie.Need-add-t11
+add-t11 c = omega (arith, end (c .before), line-end (start (c .before) .args .part .now) .inside)
 
 returns-2 : tie.Need-returns-2
-returns-2 c =
-    let g = c .before in
-    let l = g .before .before .before in
-    let s = l .before .before in
-    let e = l .line-end .ensures in
-    λ out. steps-within-end (s .args .part .now) (s .args .bases .now) out (s .pre) (s .args .kept) (g .add-letters .result) _ (l .line-end .result) e (g .add-letters .ensures) (omega (arith, e .inside))
+unfolding inLine
+returns-2 c = (rw (line-ends (start (c .before) .args .part .now) _ (end (c .before)) (c .if1 .left)) (ap₂ (λ (k : Record) (n : ℕ). record { reader = Reader.Fresh k; used = n + 1; wrote = 0 }) (longer (c .before)) (end (c .before))), tracks (c .before))
 
 pub in-line-spec : {M : Type 1} → statement M
 in-line-spec =
@@ -42,5 +65,5 @@ in-line-spec =
     slice-aggregate-add-letters
     add-letters-requires
     returns
-    add-t9
+    add-t11
     returns-2)

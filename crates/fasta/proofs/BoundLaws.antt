@@ -1,0 +1,141 @@
+-- What a step takes and writes stays within bounds, and so do the buffers.
+-- Assumes nothing.
+use mathlib.Core.Bool.{Bool, true, false}
+use mathlib.Core.List.{List, [], _∷_, _++_}
+use mathlib.Core.Path.{_≡_, refl, ap, subst, _∙_}
+use Prim.Native.Nat.{ℕ, _+_, _≤_, _<_}
+use native.Mathlib.Omega.{arith}
+use borrow.Author.Tests.{ltb-true, ltb-false, lt-ltb, le-ltb}
+use lib.Dec.{ltb, eqb}
+use lib.ListN.{length, take, drop, getD, length-append}
+use lib.Seq.{take-nil}
+use Rattle.codes.specs.Codes.{pick, chars}
+use Rattle.stores.specs.Stores.{pushAscii, after}
+use Rattle.fasta.specs.Report.{refusedText, isHeader, heading}
+use Rattle.fasta.specs.Rows.{setFlags, strandOf, totalOf}
+use Rattle.fasta.specs.Steps.{Move, move, tooShort, seen, lineEnd, endsLine, lineUsed, ordinal, rowFrom, begun, inHeader, inLine, atLine, next, lineTrack, trackAfter, otherAfter, closed, opened, ending, started, lastLines}
+use Rattle.fasta.specs.declared.reader.Record.{Record}
+use Rattle.fasta.specs.declared.reader.Reader.{Reader}
+use Rattle.fasta.specs.declared.reader.Reader.the-variants as Reader
+use Rattle.fasta.proofs.HoldLaws.{push-nothing, push-length}
+use Rattle.fasta.proofs.LineLaws.{line-end}
+use Rattle.fasta.proofs.RowLaws.{row-length, total-length}
+
+-- a step takes some bytes where there are any, no more than there are, and writes no more than a row
+pub record Bounded (part : List ℕ) (m : Move) : Type 0 where
+  pub some : 0 < length part → 0 < m .used
+  pub used : m .used ≤ length part
+  pub wrote : length (m .written) ≤ 65
+
+pub row-from-length : (k : Record) (bases flags : List ℕ) → length (rowFrom k bases flags) ≤ 65
+unfolding rowFrom
+row-from-length k bases flags = row-length (ordinal k) (k .count) (setFlags (chars 1 flags 0 (k .count))) (strandOf (chars 2 bases 0 (k .count)))
+
+module _ (part : List ℕ) where
+  line-some : 0 < length part → 0 < lineUsed part
+  line-some h =
+      cases (endsLine part) refl
+    where
+      cases : (t : Bool) → endsLine part ≡ t → 0 < pick t (lineEnd part + 1) (lineEnd part)
+      cases true e = omega arith
+      cases false e = omega (arith, ltb-false (lineEnd part) (length part) e)
+
+  line-inside : lineUsed part ≤ length part
+  line-inside =
+      cases (endsLine part) refl
+    where
+      cases : (t : Bool) → endsLine part ≡ t → pick t (lineEnd part + 1) (lineEnd part) ≤ length part
+      cases true e = omega (arith, ltb-true (lineEnd part) (length part) e)
+      cases false e = omega (arith, line-end part .inside)
+
+  begun-bounded : 0 < length part → Bounded part (begun part)
+  unfolding begun
+  begun-bounded h =
+      cases (eqb (getD part 0 0) 10) (eqb (getD part 0 0) 62)
+    where
+      cases : (t u : Bool) → Bounded part (pick t (move Reader.Start 1 []) (pick u (move (Reader.Header 0) 1 []) (move Reader.Ended 1 (refusedText ++ (10 ∷ [])))))
+      cases true u = record { some = λ _. omega arith; used = h; wrote = omega arith }
+      cases false true = record { some = λ _. omega arith; used = h; wrote = omega arith }
+      cases false false = record { some = λ _. omega arith; used = h; wrote = omega arith }
+
+  header-bounded : (i : ℕ) → Bounded part (inHeader i part)
+  unfolding inHeader
+  header-bounded i = record { some = line-some; used = line-inside; wrote = omega arith }
+
+  pub line-bounded : (k : Record) → Bounded part (inLine k part)
+  unfolding inLine
+  line-bounded k = record { some = line-some; used = line-inside; wrote = omega arith }
+
+  fresh-bounded : 0 < length part → (k : Record) (bases flags : List ℕ) → Bounded part (atLine k part bases flags)
+  unfolding atLine
+  fresh-bounded h k bases flags =
+      cases (isHeader part)
+    where
+      cases : (t : Bool) → Bounded part (pick t (move (Reader.Header (ordinal k)) 1 (rowFrom k bases flags)) (inLine k part))
+      cases true = record { some = λ _. omega arith; used = h; wrote = row-from-length k bases flags }
+      cases false = line-bounded k
+
+pub next-bounded : (reader : Reader) (part bases flags : List ℕ) → Bounded part (next reader part bases flags)
+unfolding next
+next-bounded reader [] bases flags = record { some = λ h. absurd (omega arith); used = omega arith; wrote = omega arith }
+next-bounded Reader.Start (b ∷ bs) bases flags = begun-bounded (b ∷ bs) (omega arith)
+next-bounded (Reader.Header i) (b ∷ bs) bases flags = header-bounded (b ∷ bs) i
+next-bounded (Reader.Fresh k) (b ∷ bs) bases flags = fresh-bounded (b ∷ bs) (omega arith) k bases flags
+next-bounded (Reader.Within k) (b ∷ bs) bases flags = line-bounded (b ∷ bs) k
+next-bounded Reader.Ended (b ∷ bs) bases flags = record { some = λ h. omega arith; used = omega arith; wrote = omega arith }
+
+-- where there is room, a step looks at all of a part, and nowhere at more
+pub seen-all : (part out : List ℕ) → 96 ≤ length out → seen part out ≡ part
+seen-all part out h = rw (le-ltb (length out) 96 h)
+
+pub seen-empty : (part out : List ℕ) → length part ≡ 0 → seen part out ≡ []
+seen-empty [] out h =
+    cases (tooShort out)
+  where
+    cases : (t : Bool) → pick {A = List ℕ} t [] [] ≡ []
+    cases true = refl
+    cases false = refl
+seen-empty (b ∷ bs) out h = absurd (omega arith)
+
+pub seen-none : (part out : List ℕ) → length out < 96 → seen part out ≡ []
+seen-none part out h = rw (lt-ltb (length out) 96 h)
+
+-- nothing to look at: the buffers stay
+pub track-none : (w : ℕ) (reader : Reader) (bytes : List ℕ) → trackAfter w reader [] bytes ≡ bytes
+unfolding trackAfter lineEnd
+track-none w Reader.Start bytes = refl
+track-none w (Reader.Header i) bytes = refl
+track-none w (Reader.Fresh k) bytes = push-nothing w bytes (k .count)
+track-none w (Reader.Within k) bytes = push-nothing w bytes (k .count)
+track-none w Reader.Ended bytes = refl
+
+pub other-none : (reader : Reader) (bases other : List ℕ) → otherAfter reader [] bases other ≡ other
+unfolding otherAfter
+other-none Reader.Start bases other = refl
+other-none (Reader.Header i) bases other = refl
+other-none (Reader.Fresh k) bases other = refl
+other-none (Reader.Within k) bases other = refl
+other-none Reader.Ended bases other = refl
+
+-- the tracks keep their size
+line-track-length : (w : ℕ) (k : Record) (part bytes : List ℕ) → length (lineTrack w k part bytes) ≡ length bytes
+unfolding lineTrack
+line-track-length w k part bytes = push-length w bytes (k .count) (take (lineEnd part) part)
+
+pub track-length : (w : ℕ) (reader : Reader) (part bytes : List ℕ) → length (trackAfter w reader part bytes) ≡ length bytes
+unfolding trackAfter
+track-length w Reader.Start part bytes = refl
+track-length w (Reader.Header i) part bytes = refl
+track-length w (Reader.Fresh k) part bytes =
+    cases (isHeader part)
+  where
+    cases : (t : Bool) → length (pick t bytes (lineTrack w k part bytes)) ≡ length bytes
+    cases true = refl
+    cases false = line-track-length w k part bytes
+track-length w (Reader.Within k) part bytes = line-track-length w k part bytes
+track-length w Reader.Ended part bytes = refl
+
+-- what the end of the input writes
+pub closed-length : (k : Record) (bases flags : List ℕ) → length (closed k bases flags) ≤ 92
+unfolding closed
+closed-length k bases flags = omega (arith, length-append (rowFrom k bases flags) (totalOf (ordinal k)), row-from-length k bases flags, total-length (ordinal k))

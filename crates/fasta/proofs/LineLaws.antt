@@ -1,0 +1,79 @@
+-- Where a line ends: the bytes before hold no LF, and an LF stands there if the part goes on.
+-- Assumes nothing.
+use mathlib.Core.Bool.{Bool, true, false}
+use mathlib.Core.List.{List, [], _∷_, _++_}
+use mathlib.Core.Path.{_≡_, refl, sym, ap, _∙_}
+use Prim.Native.Nat.{ℕ, zero, suc, _+_, _≤_, _<_}
+use native.Mathlib.Numerals.{add-one}
+use native.Mathlib.Omega.{arith}
+use borrow.Author.Tests.{eq-eqb, ne-eqb, eqb-true, eqb-false, lt-ltb, le-ltb}
+use lib.Dec.{eqb}
+use lib.ListN.{length, take, getD, length-take}
+use lib.Seq.{getD-take, take-suc, length-take-le}
+use Rattle.codes.specs.Codes.{pick}
+use Rattle.fasta.specs.Report.{isHeader}
+use Rattle.fasta.specs.Steps.{lineEnd, endsLine}
+use Rattle.fasta.proofs.RestLaws.{Plain}
+
+-- r is the number of bytes before the first LF
+pub record LineEnd (bs : List ℕ) (r : ℕ) : Type 0 where
+  pub inside : r ≤ length bs
+  pub before : (k : ℕ) → k < r → getD bs k 0 ≡ 10 → ⊥
+  pub found : r < length bs → getD bs r 0 ≡ 10
+
+later : (b : ℕ) (bs : List ℕ) (r : ℕ) → LineEnd (b ∷ bs) (suc r) → LineEnd bs r
+later b bs r h = record { inside = omega (arith, h .inside); before = λ k l. h .before (suc k) (omega arith); found = λ l. h .found (omega arith) }
+
+pub line-end-is : (bs : List ℕ) (r : ℕ) → LineEnd bs r → r ≡ lineEnd bs
+unfolding lineEnd
+line-end-is [] r h = omega (arith, h .inside)
+line-end-is (b ∷ bs) zero h = rw (eq-eqb b 10 (h .found (omega arith)))
+line-end-is (b ∷ bs) (suc r) h = rw (ne-eqb b 10 (h .before 0 (omega arith))) (ap suc (line-end-is bs r (later b bs r h)))
+
+one-more : (b : ℕ) (bs : List ℕ) (t : Bool) → eqb b 10 ≡ t → LineEnd bs (lineEnd bs) → LineEnd (b ∷ bs) (pick t 0 (suc (lineEnd bs)))
+one-more b bs true e h = record { inside = omega arith; before = λ k l. absurd (omega arith); found = λ l. eqb-true b 10 e }
+one-more b bs false e h =
+    record {
+      inside = omega (arith, h .inside);
+      before = at;
+      found = λ l. h .found (omega arith);
+    }
+  where
+    at : (k : ℕ) → k < suc (lineEnd bs) → getD (b ∷ bs) k 0 ≡ 10 → ⊥
+    at zero l = eqb-false b 10 e
+    at (suc k) l = h .before k (omega arith)
+
+pub line-end : (bs : List ℕ) → LineEnd bs (lineEnd bs)
+unfolding lineEnd
+line-end [] = record { inside = omega arith; before = λ k l. absurd (omega arith); found = λ l. absurd (omega arith) }
+line-end (b ∷ bs) = one-more b bs (eqb b 10) refl (line-end bs)
+
+-- the bytes before an end of line, and with it
+module _ (part : List ℕ) where
+  pub line-plain : Plain (take (lineEnd part) part)
+  line-plain k l e =
+      let m : k < lineEnd part = omega (arith, length-take (lineEnd part) part) in
+      line-end part .before k m (sym (getD-take (lineEnd part) part k 0 m) ∙ e)
+
+  pub line-whole : lineEnd part < length part → take (lineEnd part + 1) part ≡ take (lineEnd part) part ++ (10 ∷ [])
+  line-whole l = ap (λ (k : ℕ). take k part) (add-one (lineEnd part)) ∙ take-suc part (lineEnd part) 0 l ∙ ap (λ (b : ℕ). take (lineEnd part) part ++ (b ∷ [])) (line-end part .found l)
+
+-- a place r where the line ends: at the end of the part, or before it
+module _ (part : List ℕ) (r : ℕ) (e : r ≡ lineEnd part) where
+  pub line-open : r ≡ length part → endsLine part ≡ false
+  line-open q = le-ltb (lineEnd part) (length part) (omega arith)
+
+  pub line-ends : (r ≡ length part → ⊥) → endsLine part ≡ true
+  line-ends q = lt-ltb (lineEnd part) (length part) (omega (arith, line-end part .inside))
+
+  pub line-length : length (take r part) ≡ lineEnd part
+  line-length = length-take-le r part (omega (arith, line-end part .inside)) ∙ e
+
+-- the first byte of a part
+pub take-one : (part : List ℕ) → 0 < length part → take 1 part ≡ getD part 0 0 ∷ []
+take-one [] h = absurd (omega arith)
+take-one (b ∷ part) h = refl
+
+pub header-first : (part : List ℕ) → 0 < length part → isHeader part ≡ eqb (getD part 0 0) 62
+header-first [] h = absurd (omega arith)
+header-first (b ∷ part) h = refl
