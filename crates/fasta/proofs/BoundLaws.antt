@@ -2,21 +2,20 @@
 -- Assumes nothing.
 use mathlib.Core.Bool.{Bool, true, false}
 use mathlib.Core.List.{List, [], _∷_, _++_}
-use mathlib.Core.Path.{_≡_, refl, ap, subst, _∙_}
+use mathlib.Core.Path.{_≡_, refl, ap, _∙_}
 use Prim.Native.Nat.{ℕ, _+_, _≤_, _<_}
 use native.Mathlib.Omega.{arith}
 use borrow.Author.Tests.{ltb-true, ltb-false, lt-ltb, le-ltb}
-use lib.Dec.{ltb, eqb}
-use lib.ListN.{length, take, drop, getD, length-append}
-use lib.Seq.{take-nil}
+use lib.Dec.{eqb}
+use lib.ListN.{length, take, getD, length-append}
 use Rattle.codes.specs.Codes.{pick, chars}
-use Rattle.stores.specs.Stores.{pushAscii, after}
-use Rattle.fasta.specs.Report.{refusedText, isHeader, heading}
+use Rattle.fasta.specs.Report.{refusedText, isHeader}
 use Rattle.fasta.specs.Rows.{setFlags, strandOf, totalOf}
-use Rattle.fasta.specs.Steps.{Move, move, tooShort, seen, lineEnd, endsLine, lineUsed, ordinal, rowFrom, begun, inHeader, inLine, atLine, next, lineTrack, trackAfter, otherAfter, closed, opened, ending, started, lastLines}
+use Rattle.fasta.specs.Steps.{Move, move, stepped, tooShort, seen, lineEnd, endsLine, lineUsed, opened, ordinal, rowFrom, begun, inHeader, inLine, atLine, next, lineTrack, trackAfter, otherAfter, closed, ending, lastLines}
 use Rattle.fasta.specs.declared.reader.Record.{Record}
 use Rattle.fasta.specs.declared.reader.Reader.{Reader}
 use Rattle.fasta.specs.declared.reader.Reader.the-variants as Reader
+use Rattle.fasta.specs.declared.reader.Stepped.{Stepped}
 use Rattle.fasta.proofs.HoldLaws.{push-nothing, push-length}
 use Rattle.fasta.proofs.LineLaws.{line-end}
 use Rattle.fasta.proofs.RowLaws.{row-length, total-length}
@@ -84,7 +83,7 @@ next-bounded (Reader.Fresh k) (b ∷ bs) bases flags = fresh-bounded (b ∷ bs) 
 next-bounded (Reader.Within k) (b ∷ bs) bases flags = line-bounded (b ∷ bs) k
 next-bounded Reader.Ended (b ∷ bs) bases flags = record { some = λ h. omega arith; used = omega arith; wrote = omega arith }
 
--- where there is room, a step looks at all of a part, and nowhere at more
+-- a step looks at all of a part where there is room, and else at nothing
 pub seen-all : (part out : List ℕ) → 96 ≤ length out → seen part out ≡ part
 seen-all part out h = rw (le-ltb (length out) 96 h)
 
@@ -139,3 +138,29 @@ track-length w Reader.Ended part bytes = refl
 pub closed-length : (k : Record) (bases flags : List ℕ) → length (closed k bases flags) ≤ 92
 unfolding closed
 closed-length k bases flags = omega (arith, length-append (rowFrom k bases flags) (totalOf (ordinal k)), row-from-length k bases flags, total-length (ordinal k))
+
+ending-length : (reader : Reader) (bases flags : List ℕ) → length (ending reader bases flags) ≤ 92
+ending-length Reader.Start bases flags = omega (arith, total-length 0)
+ending-length (Reader.Header i) bases flags = closed-length (opened i) bases flags
+ending-length (Reader.Fresh k) bases flags = closed-length k bases flags
+ending-length (Reader.Within k) bases flags = closed-length k bases flags
+ending-length Reader.Ended bases flags = omega arith
+
+pub last-length : (reader : Reader) (bases flags out : List ℕ) → length (lastLines reader bases flags out) ≤ 92
+unfolding lastLines
+last-length reader bases flags out =
+    cases (tooShort out)
+  where
+    cases : (t : Bool) → length (pick t [] (ending reader bases flags)) ≤ 92
+    cases true = omega arith
+    cases false = ending-length reader bases flags
+
+-- the numbers that a step answers, with bytes to read and room to write
+pub answer-bounded : (reader : Reader) (part bases flags out : List ℕ) (r : Stepped) → r ≡ stepped (next reader (seen part out) bases flags) → 0 < length part → 96 ≤ length out
+    → (0 < r .used) × (r .used ≤ length part) × (r .wrote ≤ length out)
+answer-bounded reader part bases flags out r e h m =
+    let q : r ≡ stepped (next reader part bases flags) = e ∙ ap (λ (p : List ℕ). stepped (next reader p bases flags)) (seen-all part out m) in
+    let b : Bounded part (next reader part bases flags) = next-bounded reader part bases flags in
+    let u : r .used ≡ next reader part bases flags .used = ap (λ (x : Stepped). x .used) q in
+    let v : r .wrote ≡ length (next reader part bases flags .written) = ap (λ (x : Stepped). x .wrote) q in
+    (omega (arith, b .some h), omega (arith, b .used), omega (arith, b .wrote))

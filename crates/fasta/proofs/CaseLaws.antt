@@ -3,7 +3,7 @@
 use mathlib.Core.Bool.{true, false}
 use mathlib.Core.List.{List, [], _∷_, _++_}
 use mathlib.Core.Path.{_≡_, refl, sym, ap, ap₂, subst, _∙_}
-use Prim.Native.Nat.{ℕ, _+_, _%_, _^_, _≤_, _<_}
+use Prim.Native.Nat.{ℕ, _≤_, _<_}
 use native.Mathlib.Omega.{arith}
 use borrow.Author.Tests.{eq-eqb, ne-eqb, lt-ltb, le-ltb}
 use lib.ListN.{length, getD}
@@ -15,7 +15,7 @@ use Rattle.fasta.specs.declared.reader.Record.{Record}
 use Rattle.fasta.specs.declared.reader.Reader.{Reader}
 use Rattle.fasta.specs.declared.reader.Reader.the-variants as Reader
 use Rattle.fasta.specs.declared.reader.Stepped.{Stepped}
-use Rattle.fasta.proofs.BoundLaws.{row-from-length, closed-length, seen-all, track-none, other-none}
+use Rattle.fasta.proofs.BoundLaws.{row-from-length, seen-all, track-none, other-none}
 use Rattle.fasta.proofs.LineLaws.{header-first}
 use Rattle.fasta.proofs.RowLaws.{put-as}
 use Rattle.fasta.proofs.SetsLaws.{put-then, put-place, put-onto}

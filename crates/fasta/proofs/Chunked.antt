@@ -6,14 +6,12 @@ use mathlib.Core.Path.{_≡_, refl, sym, ap, _∙_}
 use Prim.Native.Nat.{ℕ, _+_, _^_, _≤_, _<_}
 use native.Mathlib.Omega.{arith}
 use borrow.Author.Tests.{le-ltb}
-use lib.Dec.{ltb}
 use lib.ListN.{length, take, drop, take-append-drop, length-append, length-take, length-drop}
 use lib.Seq.{take-append-seam}
 use Rattle.codes.specs.Codes.{pick}
 use Rattle.fasta.specs.Report.{heading, report}
 use Rattle.fasta.specs.Steps.{Move, onto, tooShort, seen, started, next, trackAfter, lastLines}
 use Rattle.fasta.specs.declared.reader.Reader.{Reader}
-use Rattle.fasta.specs.declared.reader.Reader.the-variants as Reader
 use Rattle.fasta.proofs.Rest.{State, start, rest, recordsBefore, Leads}
 use Rattle.fasta.proofs.Meaning.{Sized, Reads, Onward}
 use Rattle.fasta.proofs.BoundLaws.{next-bounded, track-length}

@@ -1,14 +1,13 @@
 -- More letters for the open record: both tracks keep them where there are at most 16,384, and beyond that there are only too many.
 -- Assumes nothing.
 use mathlib.Core.List.{List, [], _∷_, _++_, map, map-append}
-use mathlib.Core.Path.{_≡_, refl, sym, ap, ap₂, _∙_}
+use mathlib.Core.Path.{_≡_, refl, sym, ap, _∙_}
 use Prim.Native.Nat.{ℕ, _+_, _^_, _≤_, _<_}
-use native.Mathlib.Nat.{add-zero}
 use native.Mathlib.Omega.{arith}
 use borrow.Author.Tests.{ltb-true, ltb-false, lt-ltb, le-ltb}
 use lib.Dec.{ltb}
 use lib.ListN.{length, length-append}
-use Rattle.codes.specs.Codes.{IsWidth, per, up, chars, code, lossy, flag}
+use Rattle.codes.specs.Codes.{IsWidth, up, chars, code}
 use Rattle.codes.specs.declared.refusals.Outcome.{Outcome}
 use Rattle.codes.specs.declared.refusals.Outcome.the-variants.{Done, Refused}
 use Rattle.codes.proofs.CharLaws.{length-pack}
@@ -98,9 +97,9 @@ module _ (r : Record) (bases flags letters : List ℕ) (size : Sized bases flags
   past : 16384 < r .count + length letters → Holds (lengthened r (length letters)) bases′ flags′ i (ls ++ letters)
   past l =
       let m : 16384 < length (ls ++ letters) =
-          below-or 16384 (r .count)
-          (λ p. omega (arith, many r bases flags i ls h p, length-append ls letters))
-          (λ p. omega (arith, kept-of r bases flags i ls h p .count, length-append ls letters)) in
+      below-or 16384 (r .count)
+      (λ p. omega (arith, many r bases flags i ls h p, length-append ls letters))
+      (λ p. omega (arith, kept-of r bases flags i ls h p .count, length-append ls letters)) in
       record {
         number = h .number;
         long = ap (ltb 16384) (most-past (r .count + length letters) l) ∙ sym (lt-ltb 16384 (length (ls ++ letters)) m);

@@ -16,3 +16,4 @@ pub mod CaseLaws
 pub mod StepLaws
 pub mod FinishLaws
 pub mod Chunked
+pub mod Decided

@@ -2,25 +2,25 @@
 -- Assumes nothing.
 use mathlib.Core.Bool.{Bool, true, false}
 use mathlib.Core.List.{List, [], _∷_, _++_}
-use mathlib.Core.Path.{_≡_, refl, sym, ap, ap₂, subst, _∙_}
-use Prim.Native.Nat.{ℕ, suc, _+_, _%_, _^_, _≤_, _<_}
+use mathlib.Core.Path.{_≡_, refl, sym, ap, subst, _∙_}
+use Prim.Native.Nat.{ℕ, suc, _≤_, _<_}
 use native.Mathlib.Omega.{arith}
-use borrow.Author.Tests.{ltb-true, ltb-false, eqb-true, eqb-false}
-use lib.Dec.{ltb, eqb}
+use borrow.Author.Tests.{ltb-true, eqb-true, eqb-false}
+use lib.Dec.{eqb}
 use lib.ListN.{length, take, getD, length-take}
-use lib.Seq.{getD-take, length-take-le, take-length}
+use lib.Seq.{getD-take, length-take-le}
 use Rattle.codes.specs.Codes.{pick, chars}
 use Rattle.codes.proofs.WidthLaws.{below-or}
 use Rattle.stores.specs.Stores.{pushAscii, after}
 use Rattle.fasta.specs.Report.{ambiguous, strand, row, refusedText, decimal, isHeader}
 use Rattle.fasta.specs.Rows.{setFlags, strandOf, columns, body, rowOf}
-use Rattle.fasta.specs.Steps.{Move, move, seen, lineEnd, endsLine, lineUsed, opened, lengthened, ordinal, rowFrom, begun, inHeader, inLine, atLine, moved, next, lineTrack, trackAfter}
+use Rattle.fasta.specs.Steps.{Move, move, lineEnd, endsLine, lineUsed, opened, lengthened, ordinal, rowFrom, begun, inHeader, inLine, atLine, next, lineTrack, trackAfter}
 use Rattle.fasta.specs.declared.reader.Record.{Record}
 use Rattle.fasta.specs.declared.reader.Reader.{Reader}
 use Rattle.fasta.specs.declared.reader.Reader.the-variants as Reader
-use Rattle.fasta.proofs.Rest.{State, start, header, fresh, within, ended, recordsBefore, Leads}
-use Rattle.fasta.proofs.Meaning.{Sized, Kept, Holds, Reads, From, Onward}
-use Rattle.fasta.proofs.HoldLaws.{many, kept-of, holds-none, lengthens, push-nothing, push-length}
+use Rattle.fasta.proofs.Rest.{State, start, header, fresh, within, ended, Leads}
+use Rattle.fasta.proofs.Meaning.{Sized, Kept, Holds, From, Onward}
+use Rattle.fasta.proofs.HoldLaws.{many, kept-of, holds-none, lengthens}
 use Rattle.fasta.proofs.LeadLaws.{leads-none, leads-blank, leads-open, leads-refused, leads-ended, leads-next, leads-header, leads-header-end, leads-within, leads-within-end, leads-letters}
 use Rattle.fasta.proofs.LetterLaws.{flags-ambiguous}
 use Rattle.fasta.proofs.LineLaws.{line-end, line-plain, line-whole, take-one, header-first}
@@ -142,7 +142,7 @@ module _ (part bases flags : List ℕ) where
           g .0,
           g .1,
           leads-letters (j .0) (j .1) (take (inLine k part .used) part) (inLine k part .written) (g .0) (omega (arith, length-take (inLine k part .used) part))
-          (λ q. eqb-false (getD part 0 0) 62 (sym (header-first part h) ∙ e) (sym (getD-take (inLine k part .used) part 0 0 u) ∙ q)) (g .2),
+              (λ q. eqb-false (getD part 0 0) 62 (sym (header-first part h) ∙ e) (sym (getD-take (inLine k part .used) part 0 0 u) ∙ q)) (g .2),
         ))
         s (j .2)
 

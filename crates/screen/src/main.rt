@@ -3,6 +3,7 @@
 mod report;
 
 use fasta::reader::BASES;
+use fasta::reader::FLAGS;
 use report::Next;
 use report::Run;
 use report::end_report;
@@ -13,10 +14,18 @@ fn main() {
     let mut buffer = [0u8; 4096];
     let mut text = [0u8; 4096];
     let mut bases = [0u8; BASES];
+    let mut flags = [0u8; FLAGS];
     let mut other = [0u8; BASES];
     let begun = start_report(&mut text);
-    let run = read_all(begun, &mut buffer, &mut bases, &mut other, &mut text);
-    end_report(run, &bases, &mut other, &mut text);
+    let run = read_all(
+        begun,
+        &mut buffer,
+        &mut bases,
+        &mut flags,
+        &mut other,
+        &mut text,
+    );
+    end_report(run, &bases, &flags, &mut other, &mut text);
 }
 
 // A proved loop has to end, and nothing says that the input does: the turns count down from a number that no run uses up.
@@ -24,13 +33,14 @@ fn read_all(
     begun: Run,
     buffer: &mut [u8; 4096],
     bases: &mut [u8; BASES],
+    flags: &mut [u8; FLAGS],
     other: &mut [u8; BASES],
     text: &mut [u8; 4096],
 ) -> Run {
     let mut run = begun;
     let mut turns = u64::MAX;
     while 0 < turns {
-        run = read_some(run, buffer, bases, other, text);
+        run = read_some(run, buffer, bases, flags, other, text);
         let next = run.next;
         let Next::Read = next else {
             return run;
@@ -45,6 +55,7 @@ fn read_some(
     run: Run,
     buffer: &mut [u8],
     bases: &mut [u8; BASES],
+    flags: &mut [u8; FLAGS],
     other: &mut [u8; BASES],
     text: &mut [u8; 4096],
 ) -> Run {
@@ -67,5 +78,5 @@ fn read_some(
         };
     }
     let n = io::count(got, buffer);
-    read_on(run, &buffer[..n], bases, other, text)
+    read_on(run, &buffer[..n], bases, flags, other, text)
 }

@@ -1,5 +1,6 @@
 // The report, collected in a text that is written out when it is nearly full.
 use fasta::reader::BASES;
+use fasta::reader::FLAGS;
 use fasta::reader::OUT;
 use fasta::reader::Reader;
 use fasta::reader::Stepped;
@@ -80,6 +81,7 @@ pub(crate) fn read_on(
     run: Run,
     part: &[u8],
     bases: &mut [u8; BASES],
+    flags: &mut [u8; FLAGS],
     other: &mut [u8; BASES],
     text: &mut [u8; 4096],
 ) -> Run {
@@ -96,7 +98,7 @@ pub(crate) fn read_on(
                 next: Next::Stop,
             };
         }
-        let stepped = step_at(reader, part, at, bases, other, text, from);
+        let stepped = step_at(reader, part, at, bases, flags, other, text, from);
         reader = stepped.reader;
         at += stepped.used;
         filled = from + stepped.wrote;
@@ -123,6 +125,7 @@ fn step_at(
     part: &[u8],
     at: usize,
     bases: &mut [u8; BASES],
+    flags: &mut [u8; FLAGS],
     other: &mut [u8; BASES],
     text: &mut [u8],
     from: usize,
@@ -133,13 +136,14 @@ fn step_at(
     ensures used { λ r. ⌜ at + r .used ≤ length (now (part .entry)) ⌝ }
     ensures wrote { λ r. ⌜ from + r .wrote ≤ length (now (text .entry)) ⌝ }
 {
-    step(reader, &part[at..], bases, other, &mut text[from..])
+    step(reader, &part[at..], bases, flags, other, &mut text[from..])
 }
 
 // The last lines of the report, if they are due, and what is left in the text.
 pub(crate) fn end_report(
     run: Run,
     bases: &[u8; BASES],
+    flags: &[u8; FLAGS],
     other: &mut [u8; BASES],
     text: &mut [u8; 4096],
 ) {
@@ -151,19 +155,20 @@ pub(crate) fn end_report(
     };
     let space = make_room(run.filled, text);
     if space.well {
-        finish_at(reader, bases, other, text, space.from);
+        finish_at(reader, bases, flags, other, text, space.from);
     }
 }
 
 fn finish_at(
     reader: Reader,
     bases: &[u8; BASES],
+    flags: &[u8; FLAGS],
     other: &mut [u8; BASES],
     text: &mut [u8],
     from: usize,
 )
     requires { ⌜ from + 96 ≤ length (now text) ⌝ }
 {
-    let wrote = finish(reader, bases, other, &mut text[from..]);
+    let wrote = finish(reader, bases, flags, other, &mut text[from..]);
     put(from + wrote, text);
 }

@@ -4,10 +4,10 @@ use Rattle.screen.proofs.read_all.Statement.{statement}
 use Rattle.screen.proofs.read_all.Tie as tie
 
 abbrev Inv-loop : tie.InvT-loop
-Inv-loop buffer₀ bases₀ other₀ text₀ run₀ turns₀ buffer bases other text run turns = Unit {0}
+Inv-loop buffer₀ bases₀ flags₀ other₀ text₀ run₀ turns₀ buffer bases flags other text run turns = Unit {0}
 
 abbrev μ-loop : tie.MeasureT-loop
-μ-loop buffer₀ bases₀ other₀ text₀ run₀ turns₀ buffer bases other text run turns = turns
+μ-loop buffer₀ bases₀ flags₀ other₀ text₀ run₀ turns₀ buffer bases flags other text run turns = turns
 
 loop-holds : tie.Need-loop-holds Inv-loop μ-loop
 loop-holds c = search needs

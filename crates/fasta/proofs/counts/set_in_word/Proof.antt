@@ -1,12 +1,7 @@
 -- The ones of a word are its flags that are set. Assumes nothing.
-use mathlib.Core.Path.{_≡_}
-use Prim.Native.Nat.{_≤_}
 use native.Mathlib.Omega.{arith}
-use lib.Count.{ones, ones-le}
 use borrow.Author.Needs.{needs}
-use Rattle.codes.specs.Codes.{chars}
 use Rattle.codes.proofs.TabLaws.{Below-of}
-use Rattle.fasta.specs.Rows.{setFlags}
 use Rattle.fasta.proofs.LetterLaws.{ones-flags, flags-few}
 use Rattle.fasta.proofs.counts.set_in_word.Statement.{statement}
 use Rattle.fasta.proofs.counts.set_in_word.Tie as tie

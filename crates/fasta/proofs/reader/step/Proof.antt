@@ -1,5 +1,5 @@
 -- Each state's own function. Assumes nothing.
-use mathlib.Core.Path.{_≡_, refl}
+use mathlib.Core.Path.{refl}
 use native.Mathlib.Omega.{arith}
 use Rattle.fasta.specs.Steps.{trackAfter, otherAfter, inHeader, inLine}
 use Rattle.fasta.specs.declared.reader.Reader.the-variants as Reader

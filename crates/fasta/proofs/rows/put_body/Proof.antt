@@ -1,6 +1,5 @@
 -- The definition's two cases. Assumes nothing.
-use mathlib.Core.Path.{ap, ap₂, _∙_}
-use Prim.Native.Nat.{ℕ}
+use mathlib.Core.Path.{ap₂, _∙_}
 use Rattle.fasta.specs.Rows.{columns}
 use Rattle.fasta.proofs.RowLaws.{body-long, body-short, put-as, marked-long, marked-short}
 use borrow.Author.Needs.{needs}

@@ -1,8 +1,7 @@
 -- Two puts, one after the other. Assumes nothing.
 use native.Mathlib.Omega.{arith}
 use Rattle.codes.specs.Codes.{chars}
-use Rattle.fasta.specs.Rows.{Put, setFlags, strandOf}
-use Rattle.fasta.specs.Steps.{closed}
+use Rattle.fasta.specs.Rows.{setFlags, strandOf}
 use Rattle.fasta.proofs.BoundLaws.{closed-length}
 use Rattle.fasta.proofs.CaseLaws.{closed-put}
 use Rattle.fasta.proofs.RowLaws.{row-length}

@@ -6,10 +6,10 @@ use Rattle.screen.proofs.report.read_on.Statement.{statement}
 use Rattle.screen.proofs.report.read_on.Tie as tie
 
 abbrev Inv-loop : tie.InvT-loop
-Inv-loop part bases₀ other₀ text₀ reader₀ filled₀ at₀ bases other text reader filled at = at ≤ length part
+Inv-loop part bases₀ flags₀ other₀ text₀ reader₀ filled₀ at₀ bases flags other text reader filled at = at ≤ length part
 
 abbrev μ-loop : tie.MeasureT-loop
-μ-loop part bases₀ other₀ text₀ reader₀ filled₀ at₀ bases other text reader filled at = length part - at
+μ-loop part bases₀ flags₀ other₀ text₀ reader₀ filled₀ at₀ bases flags other text reader filled at = length part - at
 
 loop-holds : tie.Need-loop-holds Inv-loop μ-loop
 loop-holds c = search needs

@@ -4,6 +4,7 @@ use Prim.Native.Nat.{_-_}
 use native.Mathlib.Omega.{arith}
 use lib.ListN.{length, take, drop, length-drop}
 use lib.Seq.{length-take-le}
+use Rattle.fasta.proofs.BoundLaws.{answer-bounded}
 use borrow.Author.Needs.{needs}
 use Rattle.screen.proofs.report.step_at.Statement.{statement}
 use Rattle.screen.proofs.report.step_at.Tie as tie
@@ -34,13 +35,14 @@ same-length c = search needs
 
 returns : tie.Need-returns
 returns c =
-    let e = c .before .before .step .ensures in
-    let a = c .before .before .before .before .before .before .before .before .before .args in
+    let e = c .before .before .step .ensures .0 in
+    let a = c .before .before .before .before .before .before .before .before .before .before .args in
     let n = length (a .part .now) - a .at in
     let m = length (a .text .now) - a .from in
     let p : length (take n (drop (a .at) (a .part .now))) ≡ n = length-take-le n (drop (a .at) (a .part .now)) (omega (arith, length-drop (a .at) (a .part .now))) in
     let t : length (take m (drop (a .from) (a .text .now))) ≡ m = length-take-le m (drop (a .from) (a .text .now)) (omega (arith, length-drop (a .from) (a .text .now))) in
-    (e .some (omega arith) (omega arith), (omega (arith, e .used), omega (arith, e .wrote)))
+    let b = answer-bounded (a .reader) (take n (drop (a .at) (a .part .now))) (a .bases .now) (a .flags .now) (take m (drop (a .from) (a .text .now))) (c .before .before .step .result) e (omega arith) (omega arith) in
+    (b .0, (omega (arith, b .1), omega (arith, b .2)))
 
 pub step-at-spec : {M : Type 1} → statement M
 step-at-spec =
