@@ -11,7 +11,9 @@ use lib.ListN.{length, take, getD, length-append}
 use Rattle.codes.specs.Codes.{pick, chars}
 use Rattle.fasta.specs.Report.{refusedText, isHeader}
 use Rattle.fasta.specs.Rows.{setFlags, strandOf, totalOf}
-use Rattle.fasta.specs.Steps.{Move, move, stepped, tooShort, seen, lineEnd, endsLine, lineUsed, opened, ordinal, rowFrom, begun, inHeader, inLine, atLine, next, lineTrack, trackAfter, otherAfter, closed, ending, lastLines}
+use Rattle.fasta.specs.Records.{opened, ordinal, rowFrom, closed}
+use Rattle.fasta.specs.Steps.{Move, move, stepped, tooShort, seen, lineEnd, endsLine, lineUsed, begun, inHeader, inLine, atLine, next, ending, lastLines}
+use Rattle.fasta.specs.Buffers.{lineTrack, trackAfter, otherAfter}
 use Rattle.fasta.specs.declared.reader.Record.{Record}
 use Rattle.fasta.specs.declared.reader.Reader.{Reader}
 use Rattle.fasta.specs.declared.reader.Reader.the-variants as Reader

@@ -10,7 +10,9 @@ use lib.ListN.{length, getD}
 use Rattle.codes.specs.Codes.{chars}
 use Rattle.fasta.specs.Report.{isHeader}
 use Rattle.fasta.specs.Rows.{Put, setFlags, strandOf, rowOf, totalOf}
-use Rattle.fasta.specs.Steps.{Move, stepped, onto, seen, ordinal, rowFrom, marked, inLine, atLine, moved, next, lineTrack, trackAfter, otherAfter, closed, ending, lastLines, endMarked, otherAtEnd}
+use Rattle.fasta.specs.Records.{ordinal, rowFrom, closed, marked}
+use Rattle.fasta.specs.Steps.{Move, stepped, seen, inLine, atLine, moved, next, ending, lastLines}
+use Rattle.fasta.specs.Buffers.{onto, lineTrack, trackAfter, otherAfter, endMarked, otherAtEnd}
 use Rattle.fasta.specs.declared.reader.Record.{Record}
 use Rattle.fasta.specs.declared.reader.Reader.{Reader}
 use Rattle.fasta.specs.declared.reader.Reader.the-variants as Reader

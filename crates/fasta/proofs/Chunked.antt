@@ -10,7 +10,8 @@ use lib.ListN.{length, take, drop, take-append-drop, length-append, length-take,
 use lib.Seq.{take-append-seam}
 use Rattle.codes.specs.Codes.{pick}
 use Rattle.fasta.specs.Report.{heading, report}
-use Rattle.fasta.specs.Steps.{Move, onto, tooShort, seen, started, next, trackAfter, lastLines}
+use Rattle.fasta.specs.Steps.{Move, tooShort, seen, next, started, lastLines}
+use Rattle.fasta.specs.Buffers.{onto, trackAfter}
 use Rattle.fasta.specs.declared.reader.Reader.{Reader}
 use Rattle.fasta.proofs.Rest.{State, start, rest, recordsBefore, Leads}
 use Rattle.fasta.proofs.Meaning.{Sized, Reads, Onward}

@@ -6,7 +6,8 @@ use Prim.Native.Nat.{ℕ, suc, _+_, _^_, _<_}
 use native.Mathlib.Omega.{arith}
 use Rattle.fasta.specs.Report.{records, rows, row}
 use Rattle.fasta.specs.Rows.{totalOf}
-use Rattle.fasta.specs.Steps.{ordinal, closed, opened, ending}
+use Rattle.fasta.specs.Records.{opened, ordinal, closed}
+use Rattle.fasta.specs.Steps.{ending}
 use Rattle.fasta.specs.declared.reader.Record.{Record}
 use Rattle.fasta.specs.declared.reader.Reader.{Reader}
 use Rattle.fasta.specs.declared.reader.Reader.the-variants as Reader

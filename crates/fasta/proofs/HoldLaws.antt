@@ -14,7 +14,7 @@ use Rattle.codes.proofs.CharLaws.{length-pack}
 use Rattle.codes.proofs.WidthLaws.{width-1, width-2, up-mono, below-or}
 use Rattle.stores.specs.Stores.{pushAscii, outcome, written, after}
 use Rattle.stores.proofs.CallLaws.{done-after, refused-after}
-use Rattle.fasta.specs.Steps.{atMost, opened, lengthened}
+use Rattle.fasta.specs.Records.{atMost, opened, lengthened}
 use Rattle.fasta.specs.declared.reader.Record.{Record}
 use Rattle.fasta.proofs.Meaning.{Sized, Kept, Holds}
 use Rattle.fasta.proofs.PushLaws.{push-chars}

@@ -10,7 +10,7 @@ use Rattle.codes.proofs.WidthLaws.{below-or}
 use Rattle.views.specs.Views.{flippedOver}
 use Rattle.fasta.specs.Report.{decimal, tooLongText}
 use Rattle.fasta.specs.Rows.{Put, columns, body, rowOf, totalOf}
-use Rattle.fasta.specs.Steps.{marked}
+use Rattle.fasta.specs.Records.{marked}
 use Rattle.fasta.specs.declared.reader.Record.{Record}
 use Rattle.fasta.proofs.DecimalLaws.{decimal-length}
 

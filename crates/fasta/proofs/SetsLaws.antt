@@ -9,7 +9,7 @@ use native.Mathlib.Omega.{arith}
 use lib.ListN.{length, take, drop, getD, set, length-append}
 use lib.Seq.{sets, length-sets, sets-eq, take-suc, length-take-le}
 use Rattle.fasta.specs.Rows.{Put}
-use Rattle.fasta.specs.Steps.{onto}
+use Rattle.fasta.specs.Buffers.{onto}
 
 pub sets-append : (a b d : List ℕ) (i : ℕ) → sets (sets d i a) (i + length a) b ≡ sets d i (a ++ b)
 sets-append [] b d i = ap (λ (k : ℕ). sets d k b) (add-zero i)

@@ -14,7 +14,9 @@ use Rattle.codes.proofs.WidthLaws.{below-or}
 use Rattle.stores.specs.Stores.{pushAscii, after}
 use Rattle.fasta.specs.Report.{ambiguous, strand, row, refusedText, decimal, isHeader}
 use Rattle.fasta.specs.Rows.{setFlags, strandOf, columns, body, rowOf}
-use Rattle.fasta.specs.Steps.{Move, move, lineEnd, endsLine, lineUsed, opened, lengthened, ordinal, rowFrom, begun, inHeader, inLine, atLine, next, lineTrack, trackAfter}
+use Rattle.fasta.specs.Records.{opened, lengthened, ordinal, rowFrom}
+use Rattle.fasta.specs.Steps.{Move, move, lineEnd, endsLine, lineUsed, begun, inHeader, inLine, atLine, next}
+use Rattle.fasta.specs.Buffers.{lineTrack, trackAfter}
 use Rattle.fasta.specs.declared.reader.Record.{Record}
 use Rattle.fasta.specs.declared.reader.Reader.{Reader}
 use Rattle.fasta.specs.declared.reader.Reader.the-variants as Reader

@@ -9,7 +9,7 @@ ghost use mathlib.Core.Path.{_≡_};
 ghost use Prim.Native.Nat.{_+_};
 ghost use lib.ListN.{length};
 ghost use Rattle.stores.specs.Stores.{after, pushAscii};
-ghost use Rattle.fasta.specs.Steps.{atMost, lengthened};
+ghost use Rattle.fasta.specs.Records.{atMost, lengthened};
 
 // The sum, or 16,385 for any above 16,384.
 fn sum_at_most(count: usize, more: usize) -> usize

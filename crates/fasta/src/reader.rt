@@ -8,7 +8,8 @@ use crate::states::in_header;
 use crate::states::in_line;
 ghost use mathlib.Core.Path.{_≡_};
 ghost use lib.ListN.{length};
-ghost use Rattle.fasta.specs.Steps.{stepped, onto, seen, started, next, trackAfter, otherAfter, lastLines, otherAtEnd};
+ghost use Rattle.fasta.specs.Steps.{stepped, seen, next, started, lastLines};
+ghost use Rattle.fasta.specs.Buffers.{onto, trackAfter, otherAfter, otherAtEnd};
 
 // The bytes of a buffer for 16,384 bases, for 16,384 flags, and for what a call writes.
 pub const BASES: usize = 4144;

@@ -16,7 +16,7 @@ ghost use Rattle.codes.specs.Codes.{chars};
 ghost use Rattle.fasta.specs.Report.{decimal};
 ghost use Rattle.views.specs.Views.{flippedOver};
 ghost use Rattle.fasta.specs.Rows.{Put, setFlags, strandOf, columns, body, rowOf, totalOf};
-ghost use Rattle.fasta.specs.Steps.{marked};
+ghost use Rattle.fasta.specs.Records.{marked};
 
 pub(crate) fn put_byte(byte: u8, out: &mut [u8], at: usize) -> usize
     requires { ⌜ at < length (now out) ⌝ }

@@ -13,7 +13,9 @@ use std::num::wrapping_add_u64;
 ghost use mathlib.Core.Path.{_≡_};
 ghost use Prim.Native.Nat.{_≤_, _<_};
 ghost use lib.ListN.{length};
-ghost use Rattle.fasta.specs.Steps.{stepped, onto, begun, inHeader, inLine, lineTrack, atLine, trackAfter, otherAfter, closed, marked};
+ghost use Rattle.fasta.specs.Records.{closed, marked};
+ghost use Rattle.fasta.specs.Steps.{stepped, begun, inHeader, inLine, atLine};
+ghost use Rattle.fasta.specs.Buffers.{onto, lineTrack, trackAfter, otherAfter};
 
 // Before any header.
 pub(crate) fn begin(part: &[u8], out: &mut [u8]) -> Stepped

@@ -1,7 +1,8 @@
 -- Each state's own function. Assumes nothing.
 use mathlib.Core.Path.{refl}
 use native.Mathlib.Omega.{arith}
-use Rattle.fasta.specs.Steps.{trackAfter, otherAfter, inHeader, inLine}
+use Rattle.fasta.specs.Steps.{inHeader, inLine}
+use Rattle.fasta.specs.Buffers.{trackAfter, otherAfter}
 use Rattle.fasta.specs.declared.reader.Reader.the-variants as Reader
 use Rattle.fasta.proofs.BoundLaws.{seen-empty, seen-none}
 use Rattle.fasta.proofs.CaseLaws.{in-state, idle}

@@ -2,7 +2,8 @@
 use mathlib.Core.Path.{ap}
 use Prim.Native.Nat.{ℕ, _+_}
 use native.Mathlib.Omega.{arith}
-use Rattle.fasta.specs.Steps.{inHeader, opened}
+use Rattle.fasta.specs.Records.{opened}
+use Rattle.fasta.specs.Steps.{inHeader}
 use Rattle.fasta.specs.declared.reader.Reader.the-variants as Reader
 use Rattle.fasta.proofs.LineLaws.{line-end, line-open, line-ends}
 use borrow.Author.Needs.{needs}

@@ -5,7 +5,9 @@ use native.Mathlib.Omega.{arith}
 use lib.ListN.{take}
 use lib.Seq.{length-take-le}
 use Rattle.stores.specs.Stores.{pushAscii, after}
-use Rattle.fasta.specs.Steps.{lineEnd, lengthened, inLine, lineTrack}
+use Rattle.fasta.specs.Records.{lengthened}
+use Rattle.fasta.specs.Steps.{lineEnd, inLine}
+use Rattle.fasta.specs.Buffers.{lineTrack}
 use Rattle.fasta.specs.declared.reader.Record.{Record}
 use Rattle.fasta.specs.declared.reader.Reader.the-variants as Reader
 use Rattle.fasta.proofs.LineLaws.{line-end, line-open, line-ends, line-length}

@@ -1,0 +1,38 @@
+-- The open record: the count of its letters, and what its count and its tracks give.
+-- Assumes nothing.
+use mathlib.Core.List.{List, _++_}
+use Prim.Native.Nat.{ℕ, _+_, _%_, _^_}
+use lib.Dec.{ltb}
+use Rattle.codes.specs.Codes.{pick, chars}
+use Rattle.views.specs.Views.{flippedOver}
+use Rattle.fasta.specs.Rows.{setFlags, strandOf, rowOf, totalOf}
+use Rattle.fasta.specs.declared.reader.Record.{Record}
+
+-- 16,385 stands for any number above 16,384
+unfoldable pub atMost : ℕ → ℕ
+atMost n = pick (ltb 16384 n) 16385 n
+
+-- a record after i others, before its first letter
+abbrev pub opened : ℕ → Record
+opened i = record { number = i; count = 0 }
+
+-- with n more letters
+abbrev pub lengthened : Record → ℕ → Record
+lengthened k n = record { number = k .number; count = atMost (k .count + n) }
+
+-- its own number, the first record's being 1
+abbrev pub ordinal : Record → ℕ
+ordinal k = (k .number + 1) % 2 ^ 64
+
+-- its row
+unfoldable pub rowFrom : Record → List ℕ → List ℕ → List ℕ
+rowFrom k bases flags = rowOf (ordinal k) (k .count) (setFlags (chars 1 flags 0 (k .count))) (strandOf (chars 2 bases 0 (k .count)))
+
+-- and, if it is the last, the total
+unfoldable pub closed : Record → List ℕ → List ℕ → List ℕ
+unfolding rowFrom
+closed k bases flags = rowFrom k bases flags ++ totalOf (ordinal k)
+
+-- the buffer lent for the reverse complement: left there where the row has a strand
+unfoldable pub marked : Record → List ℕ → List ℕ → List ℕ
+marked k bases other = pick (ltb 16384 (k .count)) other (flippedOver 2 bases 0 (k .count) other)
