@@ -18,7 +18,8 @@ room-2 d = omega (arith, room-1 (d .before .before .before .before), put-length 
 
 room-3 : (d : tie.After-put-decimal2) → d .put-decimal2 .result + 2 ≤ length (d .put-decimal2 .last .1 .0)
 room-3 d =
-    omega (arith, room-2 (d .before .before .before .before), put-length (d .put-decimal2 .ensures), d .put-decimal2 .ensures .behind, decimal-length 20 (d .before .before .before .before .before .before .before .before .before .before .before .args .ambiguous))
+    let a = d .before .before .before .before .before .before .before .before .before .before .before .args in
+    omega (arith, room-2 (d .before .before .before .before), put-length (d .put-decimal2 .ensures), d .put-decimal2 .ensures .behind, decimal-length 20 (a .ambiguous), decimal-length 20 (a .count))
 
 put-decimal-requires : tie.Need-put-decimal-requires
 put-decimal-requires c κs = search needs
