@@ -5,7 +5,7 @@ use codes::units::Chars;
 use order::answers::Order;
 use order::answers::Ordered;
 use order::bases::cmp;
-use views::bases::to_revcomp;
+use writes::bases::to_revcomp;
 ghost use mathlib.Core.List.{[], _∷_};
 ghost use mathlib.Core.Path.{_≡_};
 ghost use Prim.Native.Nat.{_+_, _≤_, _<_};
