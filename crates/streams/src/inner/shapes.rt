@@ -9,7 +9,7 @@ ghost use Rattle.codes.specs.Codes.{IsWidth};
 ghost use Rattle.codes.specs.Refusals.{first};
 ghost use Rattle.codes.specs.declared.refusals.Outcome.the-variants.{Done};
 ghost use Rattle.streams.specs.Answers.{shapeSays, Planned};
-ghost use Rattle.streams.specs.Streams.{multipleAbove, starts, badShape, badDelays, badWindow, shaped};
+ghost use Rattle.streams.specs.Streams.{multipleAbove, starts, badShape, badDelays, shaped};
 
 // The most characters of a context or a delay.
 const MOST: usize = 0x8000_0000;
@@ -50,17 +50,6 @@ pub fn bad_delays(first: Chars, second: Chars) -> bool
         return true;
     }
     e < d
-}
-
-// Whether a window's length lies outside its range.
-pub fn bad_window(k: Chars) -> bool
-    ensures { λ r. ⌜ r ≡ badWindow (k .0) .0 ⌝ }
-{
-    let n = k.count();
-    if n < 1 {
-        return true;
-    }
-    96 < n
 }
 
 // The windows of the context that start within the length.

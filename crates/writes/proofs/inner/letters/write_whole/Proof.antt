@@ -6,9 +6,6 @@ use lib.ListN.{length, length-set}
 use borrow.Author.Needs.{needs}
 use Rattle.writes.specs.Letters.{Lettered}
 use Rattle.writes.proofs.LetterLaws.{lettered-none, lettered-four}
-use borrow.Author.Needs.{needs}
-use Rattle.writes.specs.Letters.{Lettered}
-use Rattle.writes.proofs.LetterLaws.{lettered-none, lettered-four}
 use Rattle.writes.proofs.inner.letters.write_whole.Statement.{statement}
 use Rattle.writes.proofs.inner.letters.write_whole.Tie as tie
 
