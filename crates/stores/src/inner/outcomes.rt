@@ -11,7 +11,8 @@ ghost use mathlib.Core.Path.{_≡_};
 ghost use Prim.Native.Nat.{_+_, _^_, _≤_, _<_};
 ghost use Rattle.codes.specs.Codes.{IsWidth, up};
 ghost use Rattle.codes.specs.Refusals.{first, tooLong, badStore, badView, badEnd, noRoom};
-ghost use Rattle.stores.specs.Stores.{seqStart, noStore};
+ghost use Rattle.runs.specs.Runs.{seqStart};
+ghost use Rattle.stores.specs.Stores.{noStore};
 
 // A clear of a buffer of `size` bytes.
 pub fn clear_outcome(size: usize) -> Outcome

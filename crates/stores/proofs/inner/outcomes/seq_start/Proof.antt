@@ -6,8 +6,6 @@ use native.Mathlib.Omega.{arith}
 use borrow.Author.Needs.{needs}
 use Rattle.codes.specs.Codes.{per}
 use Rattle.codes.proofs.WidthLaws.{width-pos, per-pos, per-le, chars-bound}
-use Rattle.codes.proofs.units.Bytes.count.Reads as units-Bytes-count-reads
-use Rattle.codes.proofs.units.Chars.count.Reads as units-Chars-count-reads
 use Rattle.stores.proofs.inner.outcomes.seq_start.Statement.{statement}
 use Rattle.stores.proofs.inner.outcomes.seq_start.Tie as tie
 
