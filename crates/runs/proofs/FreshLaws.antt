@@ -59,14 +59,14 @@ module _ {w : ℕ} (W : IsWidth w) (d : List ℕ) (at : ℕ) (cs : List ℕ) (st
         ∙ byte-charAt W d b (bytes b)
 
     -- the run from the byte of `at` to the end of the byte where it stops is all that changes
-    pub made-splice : (u : ℕ) (e : List ℕ) → stop ≤ u * per w → Made d (at / per w) u (λ j. freshByte w (getD d j 0) at cs stop j) e
+    pub made-splice : (first u : ℕ) (e : List ℕ) → first ≡ at / per w → stop ≤ u * per w → Made d first u (λ j. freshByte w (getD d j 0) at cs stop j) e
         → e ≡ pack w (length d) spliced
-    made-splice u e s z =
+    made-splice first u e q s z =
         ext-getD 0 e (pack w (length d) spliced) (z .long ∙ sym (length-pack w (length d) spliced))
         (λ j l.
         let h : j < length d = omega (arith, z .long) in
-        below-or j (at / per w)
-        (λ m. z .below j m ∙ sym (kept-below j m))
+        below-or j first
+        (λ m. z .below j m ∙ sym (kept-below j (subst (λ (x : ℕ). j < x) q m)))
         (λ m. below-or j u (λ n. z .made j m n ∙ fresh-is j) (λ n. z .above j n ∙ sym (kept-above j (le-trans s (mul-le-mul-right (per w) n)))))
         ∙ sym (getD-pack w (length d) spliced j h))
 
@@ -106,10 +106,10 @@ module _ (w at : ℕ) (cs : List ℕ) (stop : ℕ) (d : List ℕ) where
 
 -- three runs from the byte of `at` to where it stops, the second by a rule of its own
 module _ {w : ℕ} (W : IsWidth w) (d : List ℕ) (at : ℕ) (cs : List ℕ) (stop : ℕ) (bytes : (b : ℕ) → getD d b 0 < 256) where
-  pub made-three : (mid to last : ℕ) (g : ℕ → ℕ) (e f x : List ℕ) → at / per w ≤ mid → mid ≤ to → to ≤ last → stop ≤ last * per w
-      → Made d (at / per w) mid (λ j. freshByte w (getD d j 0) at cs stop j) e → Made e mid to g f → Made f to last (λ j. freshByte w (getD f j 0) at cs stop j) x
+  pub made-three : (first mid to last : ℕ) (g : ℕ → ℕ) (e f x : List ℕ) → first ≡ at / per w → first ≤ mid → mid ≤ to → to ≤ last → stop ≤ last * per w
+      → Made d first mid (λ j. freshByte w (getD d j 0) at cs stop j) e → Made e mid to g f → Made f to last (λ j. freshByte w (getD f j 0) at cs stop j) x
       → ((j : ℕ) → mid ≤ j → j < to → g j ≡ freshByte w (getD e j 0) at cs stop j) → x ≡ pack w (length d) (splice (charAt w d) at cs stop)
-  made-three mid to last g e f x a b c s p q r h =
-      made-splice W d at cs stop bytes last x s
-      (fresh-join w at cs stop d (at / per w) to last (λ j. freshByte w (getD f j 0) at cs stop j) f x (le-trans a b) c
-      (fresh-join w at cs stop d (at / per w) mid to g e f a b p q h) r (λ j u v. refl))
+  made-three first mid to last g e f x i a b c s p q r h =
+      made-splice W d at cs stop bytes first last x i s
+      (fresh-join w at cs stop d first to last (λ j. freshByte w (getD f j 0) at cs stop j) f x (le-trans a b) c
+      (fresh-join w at cs stop d first mid to g e f a b p q h) r (λ j u v. refl))

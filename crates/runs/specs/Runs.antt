@@ -6,6 +6,7 @@ use Prim.Native.Nat.{ℕ, _+_, _-_, _*_, _/_, _%_, _^_, _≤_, _<_}
 use lib.ListN.{length, getD, replicate}
 use Rattle.codes.specs.Codes.{per, tab, chars, code, up, pick, charAt}
 use Rattle.codes.specs.Words.{word, pack}
+use Rattle.runs.specs.declared.inner.bounds.Bounds.{Bounds}
 use lib.Dec.{ltb, eqb}
 
 -- the next multiple of C8 at or above the length, plus the view's in-byte offset
@@ -52,6 +53,13 @@ lettersWord w n letters i = word w (tab n (λ k. code w (getD letters (i + k) 0)
 -- the gap before a view that is pushed, and the view's characters
 abbrev pub seqChars : ℕ → ℕ → List ℕ → ℕ → ℕ → List ℕ
 seqChars w len bs o n = replicate (seqStart w len o - len) (gapChar w) ++ chars w bs o n
+
+-- the bounds of a run from character `start` up to character `end`, whose bytes are whole from character `at` on
+pub record Bounded (w start at end : ℕ) (b : Bounds) : Type 0 where
+  pub first : b .first ≡ start / per w
+  pub from : b .from ≡ up w at
+  pub to : b .to ≡ end / per w
+  pub last : b .last ≡ up w end
 
 -- a view of k bytes: its n characters from o on go to `start`, behind len characters
 pub record Placed (w len start o n k : ℕ) : Type 0 where

@@ -1,10 +1,13 @@
 // Bytes that new letters share with what stands there: made anew, character by character.
+use codes::inner::counts::chars_in;
+use codes::inner::counts::per_byte;
 use codes::inner::tracks::add_digit;
 use codes::inner::tracks::code_of;
 use codes::inner::tracks::digit;
+use codes::units::Bytes;
 ghost use mathlib.Core.List.{map};
 ghost use mathlib.Core.Path.{_≡_};
-ghost use Prim.Native.Nat.{_+_, _*_, _^_, _≤_, _<_};
+ghost use Prim.Native.Nat.{_+_, _^_, _≤_, _<_};
 ghost use lib.ListN.{length, getD};
 ghost use Rattle.codes.specs.Codes.{IsWidth, per, code};
 ghost use Rattle.runs.specs.Runs.{Made, freshChar, freshByte};
@@ -28,13 +31,14 @@ fn fresh_char(old: u8, w: usize, k: usize, i: usize, at: usize, letters: &[u8], 
     0
 }
 
-// Byte b of c characters.
-fn fresh_byte(old: u8, w: usize, c: usize, b: usize, at: usize, letters: &[u8], stop: usize) -> u8
+// Byte b, made anew.
+fn fresh_byte(old: u8, w: usize, b: usize, at: usize, letters: &[u8], stop: usize) -> u8
     requires { ⌜ IsWidth w ⌝ }
-    requires { ⌜ (c ≡ per w) × (b ≤ 2 ^ 28) ⌝ }
+    requires { ⌜ b ≤ 2 ^ 28 ⌝ }
     ensures { λ r. ⌜ r ≡ freshByte w old at (map (code w) (now (letters .entry))) stop b ⌝ }
 {
-    let first = b * c;
+    let c = per_byte(w).count();
+    let first = chars_in(w, Bytes::new(b)).count();
     let mut byte: u8 = 0;
     let mut k = 0;
     while k < c {
@@ -59,10 +63,9 @@ pub fn edge_run(
     requires { ⌜ (from ≤ to) × (to ≤ length (now buffer)) × (length (now buffer) ≤ 2 ^ 28) ⌝ }
     ensures { λ _. ⌜ Made (now (buffer .entry)) from to (λ j. freshByte w (getD (now (buffer .entry)) j 0) at (map (code w) (now (letters .entry))) stop j) (now (buffer .exit)) ⌝ }
 {
-    let c = 8 / w;
     let mut j = from;
     while j < to {
-        buffer[j] = fresh_byte(buffer[j], w, c, j, at, letters, stop);
+        buffer[j] = fresh_byte(buffer[j], w, j, at, letters, stop);
         j += 1;
     }
 }

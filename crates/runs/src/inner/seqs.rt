@@ -1,11 +1,16 @@
 // A view's characters in a buffer: the gap and the bytes at both ends character by character, those between copied.
+use crate::inner::bounds::bounds_of;
+use codes::inner::counts::byte_of;
 use codes::inner::counts::bytes_for;
+use codes::inner::counts::chars_in;
+use codes::inner::counts::per_byte;
 use codes::inner::tracks::add_digit;
 use codes::inner::tracks::digit;
 use codes::inner::tracks::zero_run;
+use codes::units::Bytes;
 use codes::units::Chars;
 ghost use mathlib.Core.Path.{_≡_};
-ghost use Prim.Native.Nat.{ℕ, _+_, _-_, _*_, _/_, _^_, _≤_, _<_};
+ghost use Prim.Native.Nat.{ℕ, _+_, _-_, _*_, _^_, _≤_, _<_};
 ghost use lib.ListN.{length, getD};
 ghost use Rattle.codes.specs.Codes.{IsWidth, per, up, charAt};
 ghost use Rattle.codes.specs.Words.{pack};
@@ -44,15 +49,16 @@ fn seq_char(old: u8, w: usize, k: usize, i: usize, q: usize, p: Place, view: &[u
     0
 }
 
-// Byte b of c characters.
-fn seq_byte(old: u8, w: usize, c: usize, b: usize, q: usize, p: Place, view: &[u8]) -> u8
+// Byte b, made anew.
+fn seq_byte(old: u8, w: usize, b: usize, q: usize, p: Place, view: &[u8]) -> u8
     requires { ⌜ IsWidth w ⌝ }
     requires { ⌜ Placed w (p .len) (p .start) (p .offset) (p .count) (length (now view)) ⌝ }
-    requires { ⌜ (c ≡ per w) × (b < up w (p .start + p .count)) × (b ≤ 2 ^ 28) ⌝ }
-    requires { ⌜ ((k : ℕ) → k < per w → p .start ≤ b * c + k → q * per w + k ≡ p .offset + (b * c + k - p .start)) ⌝ }
+    requires { ⌜ (b < up w (p .start + p .count)) × (b ≤ 2 ^ 28) ⌝ }
+    requires { ⌜ ((k : ℕ) → k < per w → p .start ≤ b * per w + k → q * per w + k ≡ p .offset + (b * per w + k - p .start)) ⌝ }
     ensures { λ r. ⌜ r ≡ freshByte w old (p .len) (seqChars w (p .len) (now (view .entry)) (p .offset) (p .count)) (up w (p .start + p .count) * per w) b ⌝ }
 {
-    let first = b * c;
+    let c = per_byte(w).count();
+    let first = chars_in(w, Bytes::new(b)).count();
     let mut byte: u8 = 0;
     let mut k = 0;
     while k < c {
@@ -81,12 +87,11 @@ fn seq_run(buffer: &mut [u8], w: usize, from: usize, to: usize, p: Place, view: 
     requires { ⌜ (from ≤ to) × (to ≤ up w (p .start + p .count)) × (to ≤ length (now buffer)) × (length (now buffer) ≤ 2 ^ 28) ⌝ }
     ensures { λ _. ⌜ Made (now (buffer .entry)) from to (λ j. freshByte w (getD (now (buffer .entry)) j 0) (p .len) (seqChars w (p .len) (now (view .entry)) (p .offset) (p .count)) (up w (p .start + p .count) * per w) j) (now (buffer .exit)) ⌝ }
 {
-    let c = 8 / w;
-    let lead = p.offset / c;
+    let lead = byte_of(w, Chars::new(p.offset)).count();
     let first = bytes_for(w, Chars::new(p.len)).count();
     let mut j = from;
     while j < to {
-        buffer[j] = seq_byte(buffer[j], w, c, j, over(j, first, lead), p, view);
+        buffer[j] = seq_byte(buffer[j], w, j, over(j, first, lead), p, view);
         j += 1;
     }
 }
@@ -114,18 +119,14 @@ fn fill_seq(buffer: &mut [u8], w: usize, p: Place, view: &[u8])
     requires { ⌜ (length (now buffer) ≤ 2 ^ 28) × (up w (p .start + p .count) ≤ length (now buffer)) ⌝ }
     ensures { λ _. ⌜ now (buffer .exit) ≡ pack w (length (now (buffer .entry))) (splice (charAt w (now (buffer .entry))) (p .len) (seqChars w (p .len) (now (view .entry)) (p .offset) (p .count)) (up w (p .start + p .count) * per w)) ⌝ }
 {
-    let c = 8 / w;
-    let first = p.len / c;
     let end = p.start + p.count;
-    let last = bytes_for(w, Chars::new(end)).count();
-    let from = bytes_for(w, Chars::new(p.start)).count();
-    let to = end / c;
-    if from < to {
-        seq_run(buffer, w, first, from, p, view);
-        copy_run(buffer, w, from, to, view, p.offset);
-        seq_run(buffer, w, to, last, p, view);
+    let b = bounds_of(w, p.len, p.start, end);
+    if b.from < b.to {
+        seq_run(buffer, w, b.first, b.from, p, view);
+        copy_run(buffer, w, b.from, b.to, view, p.offset);
+        seq_run(buffer, w, b.to, b.last, p, view);
     } else {
-        seq_run(buffer, w, first, last, p, view);
+        seq_run(buffer, w, b.first, b.last, p, view);
     }
 }
 

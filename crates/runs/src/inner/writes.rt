@@ -1,8 +1,10 @@
 // New letters in a buffer: the bytes at both ends character by character, those between by four or eight letters.
+use crate::inner::bounds::bounds_of;
 use crate::inner::edges::edge_run;
 use crate::inner::whole::bases_run;
 use crate::inner::whole::flags_run;
 use codes::inner::counts::bytes_for;
+use codes::inner::counts::chars_in;
 use codes::inner::tracks::zero_run;
 use codes::units::Chars;
 ghost use mathlib.Core.List.{map};
@@ -45,17 +47,14 @@ pub fn fill_letters(buffer: &mut [u8], w: usize, at: usize, letters: &[u8], stop
     requires { ⌜ (at + length (now letters) ≤ stop) × (stop ≤ up w (at + length (now letters)) * per w) ⌝ }
     ensures { λ _. ⌜ now (buffer .exit) ≡ pack w (length (now (buffer .entry))) (splice (charAt w (now (buffer .entry))) at (map (code w) (now (letters .entry))) stop) ⌝ }
 {
-    let c = 8 / w;
     let end = at + letters.len();
-    let last = bytes_for(w, Chars::new(end)).count();
-    let from = bytes_for(w, Chars::new(at)).count();
-    let to = end / c;
-    if from < to {
-        edge_run(buffer, w, at / c, from, at, letters, stop);
-        whole_run(buffer, w, from, to, at, letters, stop);
-        edge_run(buffer, w, to, last, at, letters, stop);
+    let b = bounds_of(w, at, at, end);
+    if b.from < b.to {
+        edge_run(buffer, w, b.first, b.from, at, letters, stop);
+        whole_run(buffer, w, b.from, b.to, at, letters, stop);
+        edge_run(buffer, w, b.to, b.last, at, letters, stop);
     } else {
-        edge_run(buffer, w, at / c, last, at, letters, stop);
+        edge_run(buffer, w, b.first, b.last, at, letters, stop);
     }
 }
 
@@ -66,10 +65,10 @@ pub fn write_letters(buffer: &mut [u8], w: usize, at: usize, letters: &[u8])
     requires { ⌜ up w (at + length (now letters)) + 48 ≤ length (now buffer) ⌝ }
     ensures { λ _. ⌜ now (buffer .exit) ≡ written w (now (buffer .entry)) at (map (code w) (now (letters .entry))) ⌝ }
 {
-    let c = 8 / w;
     let end = at + letters.len();
-    let last = bytes_for(w, Chars::new(end)).count();
-    let stop = last * c;
+    let used = bytes_for(w, Chars::new(end));
+    let last = used.count();
+    let stop = chars_in(w, used).count();
     fill_letters(buffer, w, at, letters, stop);
     zero_run(buffer, last, last + 48);
 }

@@ -1,5 +1,6 @@
 // The numbers of a stream: lane length, padding and steps, with no sum that could wrap.
 use crate::answers::Shape;
+use codes::inner::counts::per_byte;
 use codes::refusals::Refusal;
 use codes::units::Chars;
 ghost use mathlib.Core.List.{[], _∷_};
@@ -78,7 +79,7 @@ fn numbers_of(w: usize, len: usize, context: usize, factor: usize) -> Plan
     ensures { λ r. ⌜ Planned w len context factor r ⌝ }
 {
     let s = starts_of(len, context);
-    let n = lane_of(s, factor * (8 / w));
+    let n = lane_of(s, factor * per_byte(w).count());
     let behind = 8 * (n - s / 8) - s % 8;
     if len < context {
         return Plan {

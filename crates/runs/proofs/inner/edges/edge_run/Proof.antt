@@ -1,12 +1,11 @@
 -- The invariant: the bytes up to j are made anew. Assumes nothing.
 use mathlib.Core.List.{List, map}
-use mathlib.Core.Path.{_≡_, refl, ap, _∙_, subst}
+use mathlib.Core.Path.{_≡_, ap, _∙_, subst}
 use Prim.Native.Nat.{ℕ, _-_, _≤_}
 use native.Mathlib.Omega.{arith}
 use native.Mathlib.Nat.{le-refl}
 use lib.ListN.{getD}
 use Rattle.codes.specs.Codes.{code}
-use Rattle.codes.proofs.WidthLaws.{width-pos}
 use Rattle.runs.specs.Runs.{Made, freshByte}
 use Rattle.runs.proofs.RunLaws.{made-none, made-more}
 use Rattle.runs.proofs.inner.edges.edge_run.Statement.{statement}
@@ -17,13 +16,10 @@ abbrev anew : (d : List ℕ) (w at : ℕ) (letters : List ℕ) (stop : ℕ) → 
 anew d w at letters stop j = freshByte w (getD d j 0) at (map (code w) letters) stop j
 
 abbrev Inv-loop : tie.InvT-loop
-Inv-loop buffer₀ w from to at letters stop c j₀ buffer j = (from ≤ j) × (j ≤ to) × Made buffer₀ from j (anew buffer₀ w at letters stop) buffer
+Inv-loop buffer₀ w from to at letters stop j₀ buffer j = (from ≤ j) × (j ≤ to) × Made buffer₀ from j (anew buffer₀ w at letters stop) buffer
 
 abbrev μ-loop : tie.MeasureT-loop
-μ-loop buffer₀ w from to at letters stop c j₀ buffer j = to - j
-
-div-c : tie.Need-div-c Inv-loop μ-loop
-div-c c = width-pos (c .before .before .pre .0)
+μ-loop buffer₀ w from to at letters stop j₀ buffer j = to - j
 
 loop-holds : tie.Need-loop-holds Inv-loop μ-loop
 loop-holds c = (omega arith, omega arith, made-none _ _ _)
@@ -32,7 +28,7 @@ slice-read-fresh-byte : tie.Need-slice-read-fresh-byte Inv-loop μ-loop
 slice-read-fresh-byte c = omega (arith, c .before .before .loop .inv .2 .long)
 
 fresh-byte-requires : tie.Need-fresh-byte-requires Inv-loop μ-loop
-fresh-byte-requires c κs = (c .before .before .before .before .before .pre .0, (refl, omega arith))
+fresh-byte-requires c κs = (c .before .before .before .before .before .pre .0, omega arith)
 
 slice-write-buffer : tie.Need-slice-write-buffer Inv-loop μ-loop
 slice-write-buffer c = omega (arith, c .before .before .before .loop .inv .2 .long)
@@ -67,7 +63,6 @@ edge-run-spec =
     (tie.spec
     Inv-loop
     μ-loop
-    div-c
     loop-holds
     slice-read-fresh-byte
     fresh-byte-requires

@@ -1,11 +1,11 @@
 -- The remainder by C8. Assumes nothing.
 use mathlib.Core.Path.{ap, _∙_}
 use Prim.Native.Nat.{ℕ, _%_}
 use Rattle.codes.specs.Codes.{per}
 use Rattle.codes.proofs.WidthLaws.{width-pos, per-pos}
 use borrow.Author.Needs.{needs}
-use Rattle.views.proofs.inner.parts.normal_offset.Statement.{statement}
-use Rattle.views.proofs.inner.parts.normal_offset.Tie as tie
+use Rattle.codes.proofs.inner.counts.within_byte.Statement.{statement}
+use Rattle.codes.proofs.inner.counts.within_byte.Tie as tie
 
 div-c : tie.Need-div-c
 div-c c = width-pos (c .pre)
@@ -22,5 +22,5 @@ new-requires c κs = search needs
 returns : tie.Need-returns
 returns c = c .new .ensures ∙ ap (λ (k : ℕ). k % per (c .before .before .args .w)) (c .before .count .ensures)
 
-pub normal-offset-spec : {M : Type 1} → statement M
-normal-offset-spec = tie.close (tie.spec div-c count-requires rem-new new-requires returns)
+pub within-byte-spec : {M : Type 1} → statement M
+within-byte-spec = tie.close (tie.spec div-c count-requires rem-new new-requires returns)
