@@ -12,7 +12,8 @@ use Rattle.codes.specs.declared.refusals.Outcome.{Outcome}
 use Rattle.codes.specs.declared.refusals.Outcome.the-variants.{Done, Refused}
 use Rattle.codes.proofs.CharLaws.{length-pack}
 use Rattle.codes.proofs.WidthLaws.{width-1, width-2, up-mono, below-or}
-use Rattle.stores.specs.Stores.{pushAscii, outcome, written, after}
+use Rattle.runs.specs.Runs.{written}
+use Rattle.stores.specs.Stores.{pushAscii, outcome, after}
 use Rattle.stores.proofs.CallLaws.{done-after, refused-after}
 use Rattle.fasta.specs.Records.{atMost, opened, lengthened}
 use Rattle.fasta.specs.declared.reader.Record.{Record}

@@ -14,8 +14,9 @@ use Rattle.codes.proofs.CodeLaws.{code-lt}
 use Rattle.codes.proofs.TabLaws.{Below-getD}
 use Rattle.codes.proofs.WidthLaws.{up-hi}
 use Rattle.codes.proofs.WordLaws.{Below, Below-map}
-use Rattle.stores.specs.Stores.{pushAscii, outcome, splice, written, after}
-use Rattle.stores.proofs.SpliceLaws.{splice-old, splice-new, splice-lt}
+use Rattle.stores.specs.Stores.{pushAscii, outcome, after}
+use Rattle.runs.specs.Runs.{splice, written}
+use Rattle.runs.proofs.SpliceLaws.{splice-old, splice-new, splice-lt}
 
 module _ {w : ℕ} (W : IsWidth w) (bs : List ℕ) (at : ℕ) (cs : List ℕ) (fits : Below w cs) (room : up w (at + length cs) ≤ length bs) where
   abbrev stop : ℕ

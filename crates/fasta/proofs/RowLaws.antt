@@ -7,7 +7,7 @@ use native.Mathlib.Omega.{arith}
 use borrow.Author.Tests.{lt-ltb, le-ltb}
 use lib.ListN.{length, length-append}
 use Rattle.codes.proofs.WidthLaws.{below-or}
-use Rattle.views.specs.Views.{flippedOver}
+use Rattle.writes.specs.Writes.{flippedOver}
 use Rattle.fasta.specs.Report.{decimal, tooLongText}
 use Rattle.fasta.specs.Rows.{Put, columns, body, rowOf, totalOf}
 use Rattle.fasta.specs.Records.{marked}

@@ -4,7 +4,7 @@ use mathlib.Core.List.{List, _++_}
 use Prim.Native.Nat.{ℕ, _+_, _%_, _^_}
 use lib.Dec.{ltb}
 use Rattle.codes.specs.Codes.{pick, chars}
-use Rattle.views.specs.Views.{flippedOver}
+use Rattle.writes.specs.Writes.{flippedOver}
 use Rattle.fasta.specs.Rows.{setFlags, strandOf, rowOf, totalOf}
 use Rattle.fasta.specs.declared.reader.Record.{Record}
 

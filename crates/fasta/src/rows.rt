@@ -7,14 +7,14 @@ use codes::units::Chars;
 use order::answers::Order;
 use order::answers::Ordered;
 use order::bases::cmp;
-use views::bases::to_revcomp;
+use writes::bases::to_revcomp;
 ghost use mathlib.Core.List.{[], _∷_};
 ghost use mathlib.Core.Path.{_≡_};
 ghost use Prim.Native.Nat.{_+_, _≤_, _<_};
 ghost use lib.ListN.{length};
 ghost use Rattle.codes.specs.Codes.{chars};
 ghost use Rattle.fasta.specs.Report.{decimal};
-ghost use Rattle.views.specs.Views.{flippedOver};
+ghost use Rattle.writes.specs.Writes.{flippedOver};
 ghost use Rattle.fasta.specs.Rows.{Put, setFlags, strandOf, columns, body, rowOf, totalOf};
 ghost use Rattle.fasta.specs.Records.{marked};
 

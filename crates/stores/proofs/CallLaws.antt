@@ -11,7 +11,8 @@ use Rattle.codes.specs.Codes.{code}
 use Rattle.codes.specs.Refusals.{Test, answer, first}
 use Rattle.codes.specs.declared.refusals.Outcome.the-variants.{Done, Refused}
 use Rattle.codes.specs.declared.refusals.Refusal.{Refusal}
-use Rattle.stores.specs.Stores.{Call, pushAscii, outcome, deed, span, oldLength, written, bufferAfter, answered, after}
+use Rattle.stores.specs.Stores.{Call, pushAscii, outcome, deed, span, oldLength, bufferAfter, answered, after}
+use Rattle.runs.specs.Runs.{written}
 
 -- no test holds
 abbrev pub Passed : List Test → Type 0

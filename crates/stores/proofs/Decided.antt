@@ -1,8 +1,8 @@
 -- For each public call: any two permitted outcomes coincide.
 -- Assumes nothing.
 use denote.Ref.{now}
-use mathlib.Core.Path.{_≡_, sym, _∙_}
-use Rattle.codes.proofs.Permitted.{Decided, Settled}
+use mathlib.Core.Path.{sym, _∙_}
+use Rattle.codes.proofs.Permitted.{Settled}
 use Rattle.codes.proofs.RefusalLaws.{says-once}
 use Rattle.stores.proofs.AnswerLaws.{pushed-told, kept-told}
 use Rattle.stores.proofs.bases.clear.Kinds as bases-clear·kinds

@@ -16,12 +16,12 @@ use Rattle.codes.specs.declared.refusals.Refusal.{Refusal}
 use Rattle.codes.proofs.CharLaws.{length-pack}
 use Rattle.codes.proofs.WidthLaws.{up-le, up-mono}
 use Rattle.stores.specs.History.{Store, step, run, charsAfter, history}
-use Rattle.stores.specs.Stores.{Call, clear, pushAscii, pushSeq, overwrite, cut, tests, outcome, Edit, still, deed, edit, bufferAfter, lengthAfter, span, oldLength, answered, after, written}
-use Rattle.stores.specs.Runs.{seqChars}
+use Rattle.stores.specs.Stores.{Call, clear, pushAscii, pushSeq, overwrite, cut, tests, outcome, Edit, still, deed, edit, bufferAfter, lengthAfter, span, oldLength, answered, after}
+use Rattle.runs.specs.Runs.{written, seqChars}
 use Rattle.stores.proofs.CallLaws.{Passed, done-passed}
 use Rattle.stores.proofs.HoldLaws.{Holds, Good, good-still, good-from, good-over, from-holds}
-use Rattle.stores.proofs.SeqLaws.{seq-lt, seq-end}
-use Rattle.stores.proofs.SpliceLaws.{codes-lt}
+use Rattle.runs.proofs.SeqLaws.{seq-lt, seq-end}
+use Rattle.runs.proofs.SpliceLaws.{codes-lt}
 
 pub clear-done : (w m len : ℕ) → m ≤ 2 ^ 28 → 48 ≤ m → Done ≡ outcome w m len clear
 unfolding outcome

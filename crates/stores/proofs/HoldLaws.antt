@@ -15,10 +15,11 @@ use Rattle.codes.proofs.CharLaws.{charAt-lt, charAt-pack, getD-pack, length-pac
 use Rattle.codes.proofs.TabLaws.{tab-ext}
 use Rattle.codes.proofs.WidthLaws.{below-or, up-hi, up-above}
 use Rattle.stores.specs.History.{charsAfter}
-use Rattle.stores.specs.Stores.{Edit, still, from, over, splice, written, overwritten, bufferAfter, lengthAfter}
-use Rattle.stores.proofs.SeqLaws.{getD-right}
-use Rattle.stores.proofs.SpliceLaws.{splice-old, splice-new, splice-far, splice-lt}
-use Rattle.stores.proofs.WrittenLaws.{word-zeros}
+use Rattle.stores.specs.Stores.{Edit, still, from, over, bufferAfter, lengthAfter}
+use Rattle.runs.specs.Runs.{splice, written, overwritten}
+use Rattle.runs.proofs.SeqLaws.{getD-right}
+use Rattle.runs.proofs.SpliceLaws.{splice-old, splice-new, splice-far, splice-lt}
+use Rattle.runs.proofs.WrittenLaws.{word-zeros}
 
 -- packed bytes are bytes
 pub pack-bytes : {w : ℕ} → IsWidth w → (n : ℕ) (f : ℕ → ℕ) → ((i : ℕ) → f i < 2 ^ w) → (j : ℕ) → getD (pack w n f) j 0 < 256

@@ -15,10 +15,10 @@ use Rattle.codes.specs.declared.refusals.Outcome.the-variants.{Done, Refused}
 use Rattle.codes.proofs.CharLaws.{charAt-lt, charAt-pack, length-pack}
 use Rattle.codes.proofs.WidthLaws.{below-or, per-pos}
 use Rattle.stores.specs.Changes.{Overwrites}
-use Rattle.stores.specs.Runs.{seqChars}
-use Rattle.stores.specs.Stores.{Call, clear, pushAscii, pushSeq, overwrite, cut, outcome, still, deed, span, oldLength, splice, written, overwritten, bufferAfter, answered, after}
-use Rattle.stores.proofs.SeqLaws.{seq-lt}
-use Rattle.stores.proofs.SpliceLaws.{splice-old, splice-far, splice-lt, codes-lt}
+use Rattle.runs.specs.Runs.{seqChars, splice, written, overwritten}
+use Rattle.stores.specs.Stores.{Call, clear, pushAscii, pushSeq, overwrite, cut, outcome, still, deed, span, oldLength, bufferAfter, answered, after}
+use Rattle.runs.proofs.SeqLaws.{seq-lt}
+use Rattle.runs.proofs.SpliceLaws.{splice-old, splice-far, splice-lt, codes-lt}
 
 module _ {w : ℕ} (W : IsWidth w) where
   -- past the last byte every character is 0

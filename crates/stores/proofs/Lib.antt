@@ -1,10 +1,3 @@
-pub mod RunLaws
-pub mod WholeLaws
-pub mod SpliceLaws
-pub mod FreshLaws
-pub mod RoomLaws
-pub mod SeqLaws
-pub mod WrittenLaws
 pub mod CallLaws
 pub mod HoldLaws
 pub mod HistoryLaws

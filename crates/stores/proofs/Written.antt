@@ -16,12 +16,13 @@ use Rattle.codes.specs.declared.refusals.Outcome.the-variants.{Done, Refused}
 use Rattle.codes.proofs.CharLaws.{getD-pack, length-pack, pack-ext, pack-charAt}
 use Rattle.codes.proofs.WidthLaws.{below-or, up-hi, up-le}
 use Rattle.stores.specs.Changes.{runStart, runEnd}
-use Rattle.stores.specs.Stores.{Call, clear, pushAscii, pushSeq, overwrite, cut, outcome, seqStart, Edit, still, deed, splice, overwritten, bufferAfter, after}
-use Rattle.stores.specs.Stores as Stores
-use Rattle.stores.proofs.FreshLaws.{kept-below, kept-above}
+use Rattle.stores.specs.Stores.{Call, clear, pushAscii, pushSeq, overwrite, cut, outcome, Edit, still, deed, bufferAfter, after}
+use Rattle.runs.specs.Runs.{seqStart, splice, overwritten}
+use Rattle.runs.specs.Runs as Runs
+use Rattle.runs.proofs.FreshLaws.{kept-below, kept-above}
 use Rattle.stores.proofs.KeptLaws.{over-char, char-by}
-use Rattle.stores.proofs.SeqLaws.{seq-end}
-use Rattle.stores.proofs.SpliceLaws.{splice-old, splice-far}
+use Rattle.runs.proofs.SeqLaws.{seq-end}
+use Rattle.runs.proofs.SpliceLaws.{splice-old, splice-far}
 
 module _ {w : ℕ} (W : IsWidth w) (bs : List ℕ) (bytes : (b : ℕ) → getD bs b 0 < 256) (len : ℕ) where
   -- a splice changes no byte before its first character, nor from the one where it stops
@@ -37,8 +38,8 @@ module _ {w : ℕ} (W : IsWidth w) (bs : List ℕ) (bytes : (b : ℕ) → getD b
       List·getD-eq-default (pack w (length bs) (splice (charAt w bs) at cs stop)) 0 {n = j} (omega (arith, length-pack w (length bs) (splice (charAt w bs) at cs stop)))
       ∙ sym (List·getD-eq-default bs 0 {n = j} l))
 
-  from-out : (at : ℕ) (cs : List ℕ) (e j : ℕ) → at + length cs ≡ e → (at / per w ≤ j → j < up w e + 48 → ⊥) → getD (Stores.written w bs at cs) j 0 ≡ getD bs j 0
-  unfolding Stores.written
+  from-out : (at : ℕ) (cs : List ℕ) (e j : ℕ) → at + length cs ≡ e → (at / per w ≤ j → j < up w e + 48 → ⊥) → getD (Runs.written w bs at cs) j 0 ≡ getD bs j 0
+  unfolding Runs.written
   from-out at cs e j q h = spliced-out at cs ((up w (at + length cs) + 48) * per w) (up w e + 48) j (le-of-eq (ap (λ (x : ℕ). (up w x + 48) * per w) q)) h
 
   over-out : (at : ℕ) (cs : List ℕ) (e j : ℕ) → at + length cs ≡ e → (at / per w ≤ j → j < up w e → ⊥) → getD (overwritten w bs at cs) j 0 ≡ getD bs j 0

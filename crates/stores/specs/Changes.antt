@@ -1,10 +1,11 @@
 -- What a call that is done may change: a run of bytes, and the characters that it overwrites.
 -- Assumes nothing.
-use mathlib.Core.List.{List, [], _∷_}
+use mathlib.Core.List.{[], _∷_}
 use Prim.Native.Nat.{ℕ, _+_, _/_, _≤_, _<_}
 use lib.ListN.{length}
 use Rattle.codes.specs.Codes.{per, up}
-use Rattle.stores.specs.Stores.{Call, clear, pushAscii, pushSeq, overwrite, cut, seqStart}
+use Rattle.stores.specs.Stores.{Call, clear, pushAscii, pushSeq, overwrite, cut}
+use Rattle.runs.specs.Runs.{seqStart}
 
 -- the first byte of a call's run
 abbrev pub runStart : ℕ → ℕ → Call → ℕ

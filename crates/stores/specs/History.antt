@@ -3,7 +3,6 @@
 use mathlib.Core.List.{List, [], _∷_, _++_}
 use Prim.Native.Nat.{ℕ, _+_}
 use lib.ListN.{length, take, drop}
-use Rattle.codes.specs.Refusals.{Answer}
 use Rattle.stores.specs.Stores.{Call, Edit, still, from, over, edit, answered, after}
 
 pub record Store : Type 0 where

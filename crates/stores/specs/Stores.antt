@@ -1,14 +1,12 @@
 -- Stores: a lent buffer and a length in characters; what each call answers, and what it writes.
 -- Assumes nothing.
-use mathlib.Core.Bool.{true, false}
 use mathlib.Core.List.{List, [], _∷_, _++_, map}
-use Prim.Native.Nat.{ℕ, _+_, _-_, _*_, _%_}
-use lib.Dec.{ltb, eqb}
-use lib.ListN.{length, getD, replicate}
-use Rattle.codes.specs.Codes.{per, up, pick, charAt, chars, code}
+use Prim.Native.Nat.{ℕ, _+_, _-_}
+use lib.ListN.{length, replicate}
+use Rattle.codes.specs.Codes.{up, chars, code}
 use Rattle.codes.specs.Refusals.{Test, Answer, answer, first, ifDone, tooLong, badStore, badView, badEnd, noRoom}
-use Rattle.codes.specs.Words.{pack}
 use Rattle.codes.specs.declared.refusals.Outcome.{Outcome}
+use Rattle.runs.specs.Runs.{seqStart, gapChar, written, overwritten}
 
 -- the calls on a store, with what they are given
 pub data Call : Type 0 where
@@ -17,14 +15,6 @@ pub data Call : Type 0 where
   pushSeq : List ℕ → ℕ → ℕ → Call
   overwrite : ℕ → List ℕ → Call
   cut : ℕ → Call
-
--- the next multiple of C8 at or above the length, plus the view's in-byte offset
-abbrev pub seqStart : ℕ → ℕ → ℕ → ℕ
-seqStart w len o = up w len * per w + o % per w
-
--- gap characters are 0 at width 2 and 1 at width 1
-abbrev pub gapChar : ℕ → ℕ
-gapChar w = pick (eqb w 1) 1 0
 
 -- a store of m bytes has no room for n characters
 abbrev pub noStore : ℕ → ℕ → ℕ → Test
@@ -59,20 +49,6 @@ deed w len (cut n) = from n []
 
 abbrev pub edit : ℕ → ℕ → ℕ → Call → Edit
 edit w m len call = ifDone (outcome w m len call) (deed w len call) still
-
--- f's characters below `at`, then those of cs and zeros up to `stop`, then f's
-unfoldable pub splice : (ℕ → ℕ) → ℕ → List ℕ → ℕ → ℕ → ℕ
-splice f at cs stop i = pick (ltb i at) (f i) (pick (ltb i stop) (getD cs (i - at) 0) (f i))
-
--- the buffer with the characters below `at`, then cs, then zeros to the end of the 48th byte behind
-unfoldable pub written : ℕ → List ℕ → ℕ → List ℕ → List ℕ
-unfolding splice
-written w bs at cs = pack w (length bs) (splice (charAt w bs) at cs ((up w (at + length cs) + 48) * per w))
-
--- the buffer with the characters of cs at `at`, and every other bit as it was
-unfoldable pub overwritten : ℕ → List ℕ → ℕ → List ℕ → List ℕ
-unfolding splice
-overwritten w bs at cs = pack w (length bs) (splice (charAt w bs) at cs (at + length cs))
 
 -- an edit's effect on the buffer
 abbrev pub bufferAfter : ℕ → List ℕ → Edit → List ℕ

@@ -4,7 +4,6 @@ use denote.Ref.{now}
 use mathlib.Core.Path.{_≡_, sym, _∙_}
 use Rattle.codes.proofs.Permitted.{Decided, Settled}
 use Rattle.codes.proofs.RefusalLaws.{says-once}
-use Rattle.streams.specs.Answers.{running}
 use Rattle.streams.proofs.AnswerLaws.{shape-told, filled-told}
 use Rattle.streams.proofs.bases.fill.Kinds as bases-fill·kinds
 use Rattle.streams.proofs.bases.fill.Reads as bases-fill
@@ -26,10 +25,6 @@ use Rattle.streams.proofs.flags.fill_delayed.Kinds as flags-fill-delaye
 use Rattle.streams.proofs.flags.fill_delayed.Reads as flags-fill-delayed
 use Rattle.streams.proofs.flags.fill_delayed_2.Kinds as flags-fill-delayed-2·kinds
 use Rattle.streams.proofs.flags.fill_delayed_2.Reads as flags-fill-delayed-2
-use Rattle.streams.proofs.flags.fill_windows.Kinds as flags-fill-windows·kinds
-use Rattle.streams.proofs.flags.fill_windows.Reads as flags-fill-windows
-use Rattle.streams.proofs.flags.step_windows.Kinds as flags-step-windows·kinds
-use Rattle.streams.proofs.flags.step_windows.Reads as flags-step-windows
 use Rattle.streams.proofs.flags.shape.Kinds as flags-shape·kinds
 use Rattle.streams.proofs.flags.shape.Reads as flags-shape
 use Rattle.streams.proofs.flags.step.Kinds as flags-step·kinds
@@ -99,9 +94,6 @@ flags-fill-delayed-2-2-decided κs a x y s t p q = (says-once filled-told x y (p
 pub flags-fill-delayed-2-3-decided : Settled 4 flags-fill-delayed-2·kinds.ps flags-fill-delayed-2·kinds.r flags-fill-delayed-2.Post (λ κs s. now (s .1 .1 .1 .1 .1 .1 .1 .1 .1 .0))
 flags-fill-delayed-2-3-decided κs a x y s t p q = (says-once filled-told x y (p .0 ∙ sym (q .0)), p .1 .1 .1 ∙ sym (q .1 .1 .1))
 
-pub flags-fill-windows-decided : Settled 2 flags-fill-windows·kinds.ps flags-fill-windows·kinds.r flags-fill-windows.Post (λ κs s. now (s .1 .1 .1 .1 .1 .1 .0))
-flags-fill-windows-decided κs a x y s t p q = (says-once filled-told x y (p .0 ∙ sym (q .0)), p .1 ∙ sym (q .1))
-
 pub flags-shape-decided : Decided 0 flags-shape·kinds.ps flags-shape·kinds.r flags-shape.Post
 flags-shape-decided κs a x y s t p q = says-once shape-told x y (p ∙ sym q)
 
@@ -125,10 +117,3 @@ flags-step-delayed-2-decided κs a x y s t p q =
     let l1 : x .first ≡ y .first = (rw (p .0) at (p .1 .1 .0)) ∙ sym (rw (q .0) at (q .1 .1 .0)) in
     let l2 : x .second ≡ y .second = (rw (p .0) at (p .1 .1 .1)) ∙ sym (rw (q .0) at (q .1 .1 .1)) in
     λ i. record { lanes = l0 i; first = l1 i; second = l2 i; outcome = e i }
-
-pub flags-step-windows-decided : Decided 1 flags-step-windows·kinds.ps flags-step-windows·kinds.r flags-step-windows.Post
-flags-step-windows-decided κs a x y s t p q =
-    let e : x .outcome ≡ y .outcome = p .0 ∙ sym (q .0) in
-    let l : x .answers ≡ y .answers = p .1 .0 ∙ sym (q .1 .0) in
-    let r : running (x .state) ≡ running (y .state) = p .1 .1 ∙ sym (q .1 .1) in
-    λ i. record { answers = l i; state = record { counts = r i .counts; step = r i .at }; outcome = e i }

@@ -3,10 +3,6 @@ pub mod LaneLaws
 pub mod WriteLaws
 pub mod TurnLaws
 pub mod FillLaws
-pub mod WindowLaws
-pub mod RunLaws
-pub mod WindowFillLaws
-pub mod TotalLaws
 pub mod Stepping
 pub mod Viewed
 pub mod AnswerLaws

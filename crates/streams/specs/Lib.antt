@@ -1,4 +1,3 @@
 pub mod Streams
 pub mod Answers
 pub mod Written
-pub mod Marks

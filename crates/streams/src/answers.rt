@@ -1,4 +1,4 @@
-// What the calls on streams answer, and the running state of flag windows.
+// What the calls on streams answer.
 use codes::refusals::Outcome;
 use codes::refusals::Refusal;
 use codes::units::Chars;
@@ -36,18 +36,5 @@ pub struct SteppedTwice {
     pub lanes: [u32; 8],
     pub first: [u32; 8],
     pub second: [u32; 8],
-    pub outcome: Outcome,
-}
-
-// Eight lane counts and the step.
-pub struct Windows {
-    pub counts: [u32; 8],
-    pub step: usize,
-}
-
-// A step's answers, all 32 bits set or 0, and the state for the next.
-pub struct Ran {
-    pub answers: [u32; 8],
-    pub state: Windows,
     pub outcome: Outcome,
 }

@@ -1,4 +1,4 @@
-// Lane streams: eight lanes over a view, with none, one or two delays, and flag windows; at width 2 in `bases`, at width 1 in `flags`.
+// Lane streams: eight lanes over a view, with none, one or two delays; at width 2 in `bases`, at width 1 in `flags`.
 pub mod answers;
 pub mod bases;
 pub mod flags;

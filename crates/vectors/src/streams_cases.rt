@@ -88,7 +88,7 @@ fn windows(line: &[u64; 512], bytes: &[u8]) {
     let c = chars(line[3]);
     let k = chars(line[4]);
     let skip = line[5] as usize;
-    let filled = flags::fill_windows(bytes, o, n, c, k, skip, &mut out);
+    let filled = windows::flags::fill_windows(bytes, o, n, c, k, skip, &mut out);
     print::filled(filled);
     print::entries(&out, written(filled));
 }

@@ -14,15 +14,15 @@ pub(crate) fn run(call: u64, line: &[u64; 512], bytes: &[u8], out: &mut [u8]) {
     let n = chars(line[3]);
     match call {
         39 => {
-            print::outcome(bases::unpack(bytes, chars(line[1]), chars(line[2]), out));
+            print::outcome(writes::bases::unpack(bytes, chars(line[1]), chars(line[2]), out));
             print::bytes(out);
         }
         38 => {
             if line[1] == 2 {
-                print::outcome(bases::to_revcomp(bytes, o, n, out));
+                print::outcome(writes::bases::to_revcomp(bytes, o, n, out));
                 print::bytes(out);
             } else {
-                print::outcome(flags::to_revcomp(bytes, o, n, out));
+                print::outcome(writes::flags::to_revcomp(bytes, o, n, out));
                 print::bytes(out);
             }
         }

@@ -10,7 +10,7 @@ use Rattle.codes.specs.declared.letters.Symbol.{Symbol}
 use Rattle.views.specs.Answers.{partSays}
 use Rattle.views.specs.Views.{Lent, made, got, sliced, normalised}
 use Rattle.views.specs.declared.view.Part.{Part}
-use Rattle.codes.proofs.Permitted.{Decided, Settled}
+use Rattle.codes.proofs.Permitted.{Decided}
 use Rattle.codes.proofs.RefusalLaws.{says-once, outcomeAt, outcomeAt-number}
 use Rattle.codes.proofs.AnswerLaws.{symbol-told, word-told, word128-told}
 use Rattle.views.proofs.bases.get_sliced.Kinds as bases-get-sliced·kinds
@@ -23,8 +23,6 @@ use Rattle.views.proofs.bases.revcomp_as_u64.Kinds as bases-revcomp-as-
 use Rattle.views.proofs.bases.revcomp_as_u64.Reads as bases-revcomp-as-u64
 use Rattle.views.proofs.bases.revcomp_as_u128.Kinds as bases-revcomp-as-u128·kinds
 use Rattle.views.proofs.bases.revcomp_as_u128.Reads as bases-revcomp-as-u128
-use Rattle.views.proofs.bases.to_revcomp.Kinds as bases-to-revcomp·kinds
-use Rattle.views.proofs.bases.to_revcomp.Reads as bases-to-revcomp
 use Rattle.views.proofs.flags.get_sliced.Kinds as flags-get-sliced·kinds
 use Rattle.views.proofs.flags.get_sliced.Reads as flags-get-sliced
 use Rattle.views.proofs.flags.as_u64.Kinds as flags-as-u64·kinds
@@ -35,10 +33,6 @@ use Rattle.views.proofs.flags.revcomp_as_u64.Kinds as flags-revcomp-as-
 use Rattle.views.proofs.flags.revcomp_as_u64.Reads as flags-revcomp-as-u64
 use Rattle.views.proofs.flags.revcomp_as_u128.Kinds as flags-revcomp-as-u128·kinds
 use Rattle.views.proofs.flags.revcomp_as_u128.Reads as flags-revcomp-as-u128
-use Rattle.views.proofs.flags.to_revcomp.Kinds as flags-to-revcomp·kinds
-use Rattle.views.proofs.flags.to_revcomp.Reads as flags-to-revcomp
-use Rattle.views.proofs.bases.unpack.Kinds as bases-unpack·kinds
-use Rattle.views.proofs.bases.unpack.Reads as bases-unpack
 
 pub bases-get-sliced-decided : Decided 1 bases-get-sliced·kinds.ps bases-get-sliced·kinds.r bases-get-sliced.Post
 bases-get-sliced-decided κs a x y s t p q = says-once symbol-told x y (p ∙ sym q)
@@ -55,9 +49,6 @@ bases-revcomp-as-u64-decided κs a x y s t p q = says-once word-told x y (p ∙ 
 pub bases-revcomp-as-u128-decided : Decided 1 bases-revcomp-as-u128·kinds.ps bases-revcomp-as-u128·kinds.r bases-revcomp-as-u128.Post
 bases-revcomp-as-u128-decided κs a x y s t p q = says-once word128-told x y (p ∙ sym q)
 
-pub bases-to-revcomp-decided : Settled 2 bases-to-revcomp·kinds.ps bases-to-revcomp·kinds.r bases-to-revcomp.Post (λ κs s. now (s .1 .1 .1 .0))
-bases-to-revcomp-decided κs a x y s t p q = (p .0 ∙ sym (q .0), (rw (p .0) at (p .1)) ∙ sym (rw (q .0) at (q .1)))
-
 pub flags-get-sliced-decided : Decided 1 flags-get-sliced·kinds.ps flags-get-sliced·kinds.r flags-get-sliced.Post
 flags-get-sliced-decided κs a x y s t p q = says-once symbol-told x y (p ∙ sym q)
 
@@ -72,12 +63,6 @@ flags-revcomp-as-u64-decided κs a x y s t p q = says-once word-told x y (p ∙ 
 
 pub flags-revcomp-as-u128-decided : Decided 1 flags-revcomp-as-u128·kinds.ps flags-revcomp-as-u128·kinds.r flags-revcomp-as-u128.Post
 flags-revcomp-as-u128-decided κs a x y s t p q = says-once word128-told x y (p ∙ sym q)
-
-pub flags-to-revcomp-decided : Settled 2 flags-to-revcomp·kinds.ps flags-to-revcomp·kinds.r flags-to-revcomp.Post (λ κs s. now (s .1 .1 .1 .0))
-flags-to-revcomp-decided κs a x y s t p q = (p .0 ∙ sym (q .0), (rw (p .0) at (p .1)) ∙ sym (rw (q .0) at (q .1)))
-
-pub bases-unpack-decided : Settled 2 bases-unpack·kinds.ps bases-unpack·kinds.r bases-unpack.Post (λ κs s. now (s .1 .1 .1 .0))
-bases-unpack-decided κs a x y s t p q = (p .0 ∙ sym (q .0), (rw (p .0) at (p .1)) ∙ sym (rw (q .0) at (q .1)))
 
 -- Of the calls over `View` the contracts are given by their own words, at any width.
 

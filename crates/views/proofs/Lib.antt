@@ -1,7 +1,5 @@
 pub mod PartLaws
 pub mod LoadLaws
-pub mod LetterLaws
-pub mod WriteLaws
 pub mod FlipLaws
 pub mod Held
 pub mod KeptCall

@@ -1,17 +1,17 @@
 -- Only the characters of a view count: accepted views with equal characters get equal answers, call by call. Each answer is made of the outcome, the length and the characters alone.
 -- Assumes nothing.
-use mathlib.Core.List.{List, [], _∷_, _++_, map}
+use mathlib.Core.List.{List, [], _∷_, _++_}
 use mathlib.Core.Path.{_≡_, sym, ap, _∙_}
 use Prim.Native.Nat.{ℕ, _+_, _-_, _/_}
-use lib.ListN.{length, getD, drop, replicate}
+use lib.ListN.{length, getD}
 use Rattle.codes.specs.Answers.{halves}
-use Rattle.codes.specs.Codes.{up, chars, letter}
-use Rattle.codes.specs.Refusals.{Test, answer, first, badIndex, badEnd, badStart, badWord, noRoom}
-use Rattle.codes.specs.Words.{word, packed}
+use Rattle.codes.specs.Codes.{chars}
+use Rattle.codes.specs.Refusals.{Test, answer, first, badIndex, badEnd, badStart, badWord}
+use Rattle.codes.specs.Words.{word}
 use Rattle.codes.specs.declared.refusals.Outcome.{Outcome}
 use Rattle.codes.specs.declared.refusals.Outcome.the-variants.{Done}
 use Rattle.codes.proofs.CharLaws.{length-chars}
-use Rattle.views.specs.Views.{viewTests, got, gotSliced, asU64, asU128, flipped, flippedAsU64, flippedAsU128, unpackOutcome, unpackedOver, flipOutcome, flippedOver}
+use Rattle.views.specs.Views.{viewTests, got, gotSliced, asU64, asU128, flipped, flippedAsU64, flippedAsU128}
 use Rattle.codes.proofs.OutcomeLaws.{first-done}
 
 -- two accepted views of width w with equal characters
@@ -28,7 +28,7 @@ module _ {w : ℕ} {bs : List ℕ} {o m : ℕ} {cs : List ℕ} {p n : ℕ} (s : 
   tests : (ts : ℕ → List Test) → first (viewTests w (length bs) o m ++ ts m) ≡ first (viewTests w (length cs) p n ++ ts n)
   tests ts = first-done (viewTests w (length bs) o m) (ts m) (s .left) ∙ ap (λ (k : ℕ). first (ts k)) same-length ∙ sym (first-done (viewTests w (length cs) p n) (ts n) (s .right))
 
-  viewed : {A : Type 0} (ts : ℕ → List Test) (f : Outcome → ℕ → List ℕ → A) → f (first (viewTests w (length bs) o m ++ ts m)) m (chars w bs o m) ≡ f (first (viewTests w (length cs) p n ++ ts n)) n (chars w cs p n)
+  pub viewed : {A : Type 0} (ts : ℕ → List Test) (f : Outcome → ℕ → List ℕ → A) → f (first (viewTests w (length bs) o m ++ ts m)) m (chars w bs o m) ≡ f (first (viewTests w (length cs) p n ++ ts n)) n (chars w cs p n)
   viewed ts f = λ i. f (tests ts i) (same-length i) (s .same i)
 
   pub got-viewed : (i : ℕ) → got w bs o m i ≡ got w cs p n i
@@ -54,17 +54,3 @@ module _ {w : ℕ} {bs : List ℕ} {o m : ℕ} {cs : List ℕ} {p n : ℕ} (s : 
   pub flippedAsU128-viewed : flippedAsU128 w bs o m ≡ flippedAsU128 w cs p n
   unfolding flippedAsU128
   flippedAsU128-viewed = viewed (λ k. badWord 1 (128 / w) k ∷ []) (λ q k xs. answer q (halves (word w (flipped w xs))) (0, 0))
-
-  -- `to_revcomp`: its outcome, and what it writes
-  pub flip-viewed : (out : List ℕ) → (flipOutcome w bs o m out ≡ flipOutcome w cs p n out) × (flippedOver w bs o m out ≡ flippedOver w cs p n out)
-  unfolding flipOutcome flippedOver
-  flip-viewed out = (
-    viewed (λ k. noRoom (length out) (up w k + 48) ∷ []) (λ q k xs. q),
-    viewed (λ k. []) (λ q k xs. packed w (flipped w xs) ++ (replicate 48 0 ++ drop (up w k + 48) out)),
-  )
-
--- unpacking: its outcome, and what it writes
-pub unpack-viewed : {bs : List ℕ} {o m : ℕ} {cs : List ℕ} {p n : ℕ} → Same 2 bs o m cs p n → (out : List ℕ)
-    → (unpackOutcome bs o m out ≡ unpackOutcome cs p n out) × (unpackedOver bs o m out ≡ unpackedOver cs p n out)
-unfolding unpackOutcome unpackedOver
-unpack-viewed s out = (viewed s (λ k. noRoom (length out) k ∷ []) (λ q k xs. q), viewed s (λ k. []) (λ q k xs. map letter xs ++ drop k out))

@@ -2,12 +2,11 @@
 -- Assumes nothing.
 use mathlib.Core.List.{List, [], _∷_, _++_, map, reverse}
 use Prim.Native.Nat.{ℕ, _+_, _-_, _/_, _%_}
-use lib.ListN.{length, getD, take, drop, replicate}
+use lib.ListN.{length, getD, take, drop}
 use Rattle.codes.specs.Answers.{halves}
-use Rattle.codes.specs.Codes.{per, up, chars, complement, letter}
-use Rattle.codes.specs.Refusals.{Test, Answer, answer, first, tooLong, badView, badIndex, badEnd, badStart, badWord, noRoom}
-use Rattle.codes.specs.Words.{word, packed}
-use Rattle.codes.specs.declared.refusals.Outcome.{Outcome}
+use Rattle.codes.specs.Codes.{per, up, chars, complement}
+use Rattle.codes.specs.Refusals.{Test, Answer, answer, first, tooLong, badView, badIndex, badEnd, badStart, badWord}
+use Rattle.codes.specs.Words.{word}
 
 -- the refusals of a view of n bytes
 abbrev pub viewTests : ℕ → ℕ → ℕ → ℕ → List Test
@@ -70,17 +69,3 @@ flippedAsU64 w bs o len = answer (first (viewTests w (length bs) o len ++ badWor
 unfoldable pub flippedAsU128 : ℕ → List ℕ → ℕ → ℕ → Answer (ℕ × ℕ)
 flippedAsU128 w bs o len =
     answer (first (viewTests w (length bs) o len ++ badWord 1 (128 / w) len ∷ [])) (halves (word w (flipped w (chars w bs o len)))) (0, 0)
-
--- unpacking writes the capital letters of bases; later bytes stay
-unfoldable pub unpackOutcome : List ℕ → ℕ → ℕ → List ℕ → Outcome
-unpackOutcome bs o len out = first (viewTests 2 (length bs) o len ++ noRoom (length out) len ∷ [])
-
-unfoldable pub unpackedOver : List ℕ → ℕ → ℕ → List ℕ → List ℕ
-unpackedOver bs o len out = map letter (chars 2 bs o len) ++ drop len out
-
--- `to_revcomp` writes ceil(length / C8) bytes, unused high bits zero, then 48 zeros; later bytes stay
-unfoldable pub flipOutcome : ℕ → List ℕ → ℕ → ℕ → List ℕ → Outcome
-flipOutcome w bs o len out = first (viewTests w (length bs) o len ++ noRoom (length out) (up w len + 48) ∷ [])
-
-unfoldable pub flippedOver : ℕ → List ℕ → ℕ → ℕ → List ℕ → List ℕ
-flippedOver w bs o len out = packed w (flipped w (chars w bs o len)) ++ (replicate 48 0 ++ drop (up w len + 48) out)

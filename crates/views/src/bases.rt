@@ -1,5 +1,4 @@
 // Views of bases: every call at width 2.
-use crate::inner::letters::unpack_view;
 use crate::inner::parts::get_at;
 use crate::inner::parts::kept;
 use crate::inner::parts::made_numbers;
@@ -8,20 +7,17 @@ use crate::inner::parts::normal_part;
 use crate::inner::parts::slice_numbers;
 use crate::inner::parts::slice_outcome;
 use crate::inner::parts::unless_refused;
-use crate::inner::reverse;
 use crate::inner::words;
 use crate::view::Part;
 use crate::view::View;
 use codes::letters::Symbol;
-use codes::refusals::Outcome;
 use codes::units::Chars;
 use codes::words::Word;
 use codes::words::Word128;
 ghost use mathlib.Core.Path.{_≡_};
 ghost use Rattle.codes.specs.Answers.{symbolSays, wordSays, word128Says};
-ghost use Rattle.codes.specs.Refusals.{ifDone};
 ghost use Rattle.views.specs.Answers.{partSays};
-ghost use Rattle.views.specs.Views.{made, got, sliced, normalised, unpackOutcome, unpackedOver, asU64, asU128, flippedAsU64, flippedAsU128, flipOutcome, flippedOver, gotSliced};
+ghost use Rattle.views.specs.Views.{made, got, sliced, normalised, asU64, asU128, flippedAsU64, flippedAsU128, gotSliced};
 
 // A view, checked.
 pub fn view<'a>(bytes: &'a [u8], offset: Chars, len: Chars) -> Part<'a>
@@ -97,14 +93,6 @@ pub fn get_sliced(
     unless_refused(outcome, symbol)
 }
 
-// Writes the capital letters of a view to the front of a buffer.
-pub fn unpack(bytes: &[u8], offset: Chars, len: Chars, out: &mut [u8]) -> Outcome
-    ensures outcome { λ r. ⌜ r ≡ unpackOutcome (now (bytes .entry)) (offset .0) (len .0) (now (out .entry)) ⌝ }
-    ensures bytes { λ r. ⌜ now (out .exit) ≡ ifDone r (unpackedOver (now (bytes .entry)) (offset .0) (len .0) (now (out .entry))) (now (out .entry)) ⌝ }
-{
-    unpack_view(bytes, offset, len, out)
-}
-
 // The word of a view of 0 to 32 bases.
 pub fn as_u64(bytes: &[u8], offset: Chars, len: Chars) -> Word
     ensures { λ r. ⌜ wordSays r ≡ asU64 2 (now (bytes .entry)) (offset .0) (len .0) ⌝ }
@@ -131,12 +119,4 @@ pub fn revcomp_as_u128(bytes: &[u8], offset: Chars, len: Chars) -> Word128
     ensures { λ r. ⌜ word128Says r ≡ flippedAsU128 2 (now (bytes .entry)) (offset .0) (len .0) ⌝ }
 {
     words::flipped_as_u128(2, bytes, offset, len)
-}
-
-// The reverse complement of a view, written to `out`: ceil(length / C8) bytes, then 48 zeros.
-pub fn to_revcomp(bytes: &[u8], offset: Chars, len: Chars, out: &mut [u8]) -> Outcome
-    ensures outcome { λ r. ⌜ r ≡ flipOutcome 2 (now (bytes .entry)) (offset .0) (len .0) (now (out .entry)) ⌝ }
-    ensures bytes { λ r. ⌜ now (out .exit) ≡ ifDone r (flippedOver 2 (now (bytes .entry)) (offset .0) (len .0) (now (out .entry))) (now (out .entry)) ⌝ }
-{
-    reverse::to_revcomp(2, bytes, offset, len, out)
 }

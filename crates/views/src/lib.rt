@@ -1,4 +1,4 @@
-// Views over lent bytes: checked, read, sliced, normalised, unpacked, reversed; at width 2 in `bases`, at width 1 in `flags`.
+// Views over lent bytes: checked, read, sliced, normalised, and their words; at width 2 in `bases`, at width 1 in `flags`.
 pub mod bases;
 pub mod flags;
 pub mod inner;

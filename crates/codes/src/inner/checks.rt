@@ -1,5 +1,7 @@
 // The tests of the refusal table that more than one call makes.
 use crate::inner::counts::bytes_for;
+use crate::inner::counts::chars_in;
+use crate::units::Bytes;
 use crate::units::Chars;
 ghost use mathlib.Core.Path.{_≡_};
 ghost use Prim.Native.Nat.{_^_, _≤_};
@@ -36,8 +38,7 @@ pub fn bad_view(w: usize, n: usize, offset: Chars, len: Chars) -> bool
     if n < 48 {
         return true;
     }
-    let c = 8 / w;
-    let room = (n - 48) * c;
+    let room = chars_in(w, Bytes::new(n - 48)).count();
     let o = offset.count();
     if room < o {
         return true;

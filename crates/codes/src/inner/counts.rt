@@ -1,8 +1,17 @@
-// From characters to bytes, at any width.
+// Between characters and bytes, at any width. C8 is written as 8 / w here alone.
 use crate::units::Bytes;
 use crate::units::Chars;
 ghost use mathlib.Core.Path.{_≡_};
-ghost use Rattle.codes.specs.Codes.{IsWidth, up};
+ghost use Prim.Native.Nat.{_*_, _/_, _%_, _^_, _≤_};
+ghost use Rattle.codes.specs.Codes.{IsWidth, per, up};
+
+// C8, the characters of a byte.
+pub fn per_byte(w: usize) -> Chars
+    requires { ⌜ IsWidth w ⌝ }
+    ensures { λ r. ⌜ r .0 ≡ per w ⌝ }
+{
+    Chars::new(8 / w)
+}
 
 // The bytes that n characters take.
 pub fn bytes_for(w: usize, n: Chars) -> Bytes
@@ -12,4 +21,35 @@ pub fn bytes_for(w: usize, n: Chars) -> Bytes
     let c = 8 / w;
     let k = n.count();
     Bytes::new(k / c + (k % c + (c - 1)) / c)
+}
+
+// The characters of n bytes.
+pub fn chars_in(w: usize, n: Bytes) -> Chars
+    requires { ⌜ IsWidth w ⌝ }
+    requires { ⌜ n .0 ≤ 2 ^ 28 ⌝ }
+    ensures { λ r. ⌜ r .0 ≡ n .0 * per w ⌝ }
+{
+    let c = 8 / w;
+    let k = n.count();
+    Chars::new(k * c)
+}
+
+// The byte in which a character stands.
+pub fn byte_of(w: usize, at: Chars) -> Bytes
+    requires { ⌜ IsWidth w ⌝ }
+    ensures { λ r. ⌜ r .0 ≡ at .0 / per w ⌝ }
+{
+    let c = 8 / w;
+    let k = at.count();
+    Bytes::new(k / c)
+}
+
+// A character's place in its byte.
+pub fn within_byte(w: usize, at: Chars) -> Chars
+    requires { ⌜ IsWidth w ⌝ }
+    ensures { λ r. ⌜ r .0 ≡ at .0 % per w ⌝ }
+{
+    let c = 8 / w;
+    let k = at.count();
+    Chars::new(k % c)
 }

@@ -1,11 +1,14 @@
 // Single characters of a byte string. Only these functions shift within a byte.
+use crate::inner::counts::byte_of;
+use crate::inner::counts::within_byte;
+use crate::letters::char_is_ambiguous;
+use crate::letters::pack_char_lossy;
+use crate::units::Chars;
 ghost use mathlib.Core.Path.{_≡_};
 ghost use Prim.Native.Nat.{ℕ, _+_, _*_, _/_, _%_, _^_, _≤_, _<_};
 ghost use lib.ListN.{length};
 ghost use Rattle.codes.specs.Codes.{IsWidth, per, charAt, code};
 ghost use Rattle.codes.specs.Zeros.{Zeroed};
-use crate::letters::char_is_ambiguous;
-use crate::letters::pack_char_lossy;
 
 // Character k of a byte.
 pub fn digit(byte: u8, w: usize, k: usize) -> u8
@@ -32,8 +35,9 @@ pub fn char_at(bytes: &[u8], w: usize, i: usize) -> u8
     requires { ⌜ i / per w < length (now bytes) ⌝ }
     ensures { λ r. ⌜ r ≡ charAt w (now (bytes .entry)) i ⌝ }
 {
-    let c = 8 / w;
-    digit(bytes[i / c], w, i % c)
+    let at = Chars::new(i);
+    let b = byte_of(w, at).count();
+    digit(bytes[b], w, within_byte(w, at).count())
 }
 
 // What a letter is at width w.

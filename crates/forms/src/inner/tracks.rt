@@ -1,6 +1,9 @@
 // The bytes of one track: packed from a view, tested for spare bits, copied into a store.
 use bytes::copy;
+use codes::inner::counts::byte_of;
+use codes::inner::counts::within_byte;
 use codes::inner::tracks::zero_run;
+use codes::units::Chars;
 use views::inner::loads::bits_at;
 ghost use mathlib.Core.List.{_++_};
 ghost use mathlib.Core.Path.{_≡_};
@@ -62,12 +65,13 @@ pub fn spare_clear(w: usize, n: usize, track: &[u8]) -> bool
     requires { ⌜ length (now track) ≡ up w n ⌝ }
     ensures { λ r. ⌜ r ≡ spareClear w n (now (track .entry)) ⌝ }
 {
-    let c = 8 / w;
-    let k = n % c;
+    let end = Chars::new(n);
+    let k = within_byte(w, end).count();
     if k == 0 {
         return true;
     }
-    track[n / c] >> (w * k) == 0
+    let last = byte_of(w, end).count();
+    track[last] >> (w * k) == 0
 }
 
 // Writes a track into a store's buffer, and 48 zeros behind it.

@@ -3,10 +3,10 @@ use crate::answers::Least;
 use crate::answers::Order;
 use crate::inner::compare::order_of;
 use crate::inner::pairs::pair_outcome;
+use codes::inner::counts::within_byte;
 use codes::refusals::Outcome;
 use codes::units::Chars;
 use views::inner::parts::accepted_part;
-use views::inner::parts::normal_offset;
 ghost use mathlib.Core.Path.{_≡_};
 ghost use Rattle.codes.specs.Codes.{IsWidth};
 ghost use Rattle.order.specs.Answers.{leastSays};
@@ -56,9 +56,9 @@ pub fn least_numbers(
         Outcome::Done => {
             let order = order_of(w, a, ao, al, b, bo, bl);
             match order {
-                Order::Less => Least::Is(normal_offset(w, ao), al),
-                Order::Equal => Least::Is(normal_offset(w, ao), al),
-                Order::Greater => Least::Is(normal_offset(w, bo), bl),
+                Order::Less => Least::Is(within_byte(w, ao), al),
+                Order::Equal => Least::Is(within_byte(w, ao), al),
+                Order::Greater => Least::Is(within_byte(w, bo), bl),
             }
         }
     }

@@ -3,6 +3,8 @@ use codes::inner::checks::bad_store;
 use codes::inner::checks::bad_view;
 use codes::inner::checks::too_long;
 use codes::inner::counts::bytes_for;
+use codes::inner::counts::chars_in;
+use codes::inner::counts::within_byte;
 use codes::refusals::Outcome;
 use codes::refusals::Refusal;
 use codes::units::Chars;
@@ -11,7 +13,8 @@ ghost use mathlib.Core.Path.{_≡_};
 ghost use Prim.Native.Nat.{_+_, _^_, _≤_, _<_};
 ghost use Rattle.codes.specs.Codes.{IsWidth, up};
 ghost use Rattle.codes.specs.Refusals.{first, tooLong, badStore, badView, badEnd, noRoom};
-ghost use Rattle.stores.specs.Stores.{seqStart, noStore};
+ghost use Rattle.runs.specs.Runs.{seqStart};
+ghost use Rattle.stores.specs.Stores.{noStore};
 
 // A clear of a buffer of `size` bytes.
 pub fn clear_outcome(size: usize) -> Outcome
@@ -81,10 +84,8 @@ pub fn seq_start(w: usize, len: Chars, offset: Chars) -> usize
     requires { ⌜ up w (len .0) ≤ 2 ^ 28 ⌝ }
     ensures { λ r. ⌜ r ≡ seqStart w (len .0) (offset .0) ⌝ }
 {
-    let c = 8 / w;
-    let o = offset.count();
-    let within = o % c;
-    bytes_for(w, len).count() * c + within
+    let behind = chars_in(w, bytes_for(w, len)).count();
+    behind + within_byte(w, offset).count()
 }
 
 // A push of `count` characters of a view of `bytes` bytes.

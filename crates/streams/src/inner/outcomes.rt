@@ -2,7 +2,6 @@
 use crate::answers::Filled;
 use crate::inner::shapes::bad_delays;
 use crate::inner::shapes::bad_shape;
-use crate::inner::shapes::bad_window;
 use crate::inner::shapes::plan_of;
 use codes::refusals::Outcome;
 use codes::refusals::Refusal;
@@ -13,7 +12,7 @@ ghost use mathlib.Core.Path.{_≡_};
 ghost use Rattle.codes.specs.Codes.{IsWidth};
 ghost use Rattle.codes.specs.Refusals.{first};
 ghost use Rattle.streams.specs.Answers.{filledSays};
-ghost use Rattle.streams.specs.Streams.{streamTests, windowTests, stepOutcome, fillAnswer};
+ghost use Rattle.streams.specs.Streams.{streamTests, stepOutcome, fillAnswer};
 
 // The refusals of a view, a context, a factor and two delays.
 pub fn stream_outcome(
@@ -96,24 +95,6 @@ pub fn fill_answer(
                 steps: p.steps,
                 padding: Chars::new(p.padding),
             }
-        }
-    }
-}
-
-// The refusals of flag windows: a view of flags, a context and a window's length.
-pub fn window_outcome(bytes: &[u8], offset: Chars, len: Chars, context: Chars, k: Chars) -> Outcome
-    ensures { λ r. ⌜ r ≡ first (windowTests (now (bytes .entry)) (offset .0) (len .0) (context .0) (k .0)) ⌝ }
-{
-    match view_outcome(1, bytes, offset, len) {
-        Outcome::Refused(refusal) => Outcome::Refused(refusal),
-        Outcome::Done => {
-            if bad_shape(context, 1) {
-                return Outcome::Refused(Refusal::BadStream);
-            }
-            if bad_window(k) {
-                return Outcome::Refused(Refusal::BadStream);
-            }
-            Outcome::Done
         }
     }
 }

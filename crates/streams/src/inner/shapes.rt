@@ -1,5 +1,6 @@
 // The numbers of a stream: lane length, padding and steps, with no sum that could wrap.
 use crate::answers::Shape;
+use codes::inner::counts::per_byte;
 use codes::refusals::Refusal;
 use codes::units::Chars;
 ghost use mathlib.Core.List.{[], _∷_};
@@ -9,7 +10,7 @@ ghost use Rattle.codes.specs.Codes.{IsWidth};
 ghost use Rattle.codes.specs.Refusals.{first};
 ghost use Rattle.codes.specs.declared.refusals.Outcome.the-variants.{Done};
 ghost use Rattle.streams.specs.Answers.{shapeSays, Planned};
-ghost use Rattle.streams.specs.Streams.{multipleAbove, starts, badShape, badDelays, badWindow, shaped};
+ghost use Rattle.streams.specs.Streams.{multipleAbove, starts, badShape, badDelays, shaped};
 
 // The most characters of a context or a delay.
 const MOST: usize = 0x8000_0000;
@@ -52,17 +53,6 @@ pub fn bad_delays(first: Chars, second: Chars) -> bool
     e < d
 }
 
-// Whether a window's length lies outside its range.
-pub fn bad_window(k: Chars) -> bool
-    ensures { λ r. ⌜ r ≡ badWindow (k .0) .0 ⌝ }
-{
-    let n = k.count();
-    if n < 1 {
-        return true;
-    }
-    96 < n
-}
-
 // The windows of the context that start within the length.
 fn starts_of(len: usize, context: usize) -> usize
     requires { ⌜ 1 ≤ context ⌝ }
@@ -89,7 +79,7 @@ fn numbers_of(w: usize, len: usize, context: usize, factor: usize) -> Plan
     ensures { λ r. ⌜ Planned w len context factor r ⌝ }
 {
     let s = starts_of(len, context);
-    let n = lane_of(s, factor * (8 / w));
+    let n = lane_of(s, factor * per_byte(w).count());
     let behind = 8 * (n - s / 8) - s % 8;
     if len < context {
         return Plan {

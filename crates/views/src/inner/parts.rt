@@ -1,7 +1,9 @@
 // One view: whether it is refused, its characters one at a time, and the numbers and the bytes of the parts that are handed back.
 use codes::inner::checks::bad_view;
 use codes::inner::checks::too_long;
+use codes::inner::counts::byte_of;
 use codes::inner::counts::bytes_for;
+use codes::inner::counts::within_byte;
 use codes::inner::tracks::char_at;
 use codes::letters::Symbol;
 use codes::refusals::Outcome;
@@ -144,15 +146,6 @@ pub fn slice_numbers(
     }
 }
 
-// Where a view begins in its first byte.
-pub fn normal_offset(w: usize, offset: Chars) -> Chars
-    requires { ⌜ IsWidth w ⌝ }
-    ensures { λ r. ⌜ r .0 ≡ offset .0 % per w ⌝ }
-{
-    let c = 8 / w;
-    Chars::new(offset.count() % c)
-}
-
 // The numbers of a normalised view.
 pub fn normal_numbers(w: usize, bytes: &[u8], offset: Chars, len: Chars) -> Numbers
     requires { ⌜ IsWidth w ⌝ }
@@ -160,7 +153,7 @@ pub fn normal_numbers(w: usize, bytes: &[u8], offset: Chars, len: Chars) -> Numb
 {
     numbers_of(
         view_outcome(w, bytes, offset, len),
-        normal_offset(w, offset),
+        within_byte(w, offset),
         len,
     )
 }
@@ -181,10 +174,8 @@ pub fn accepted_part<'a>(w: usize, bytes: &'a [u8], offset: Chars, len: Chars) -
     requires { ⌜ first (viewTests w (length (now bytes)) (offset .0) (len .0)) ≡ Done ⌝ }
     ensures { λ r. ⌜ now r ≡ normalPart w (now (bytes .entry)) (offset .0) (len .0) ⌝ }
 {
-    let c = 8 / w;
-    let o = offset.count();
-    let used = bytes_for(w, Chars::new(o + len.count()));
-    let from = o / c;
+    let from = byte_of(w, offset).count();
+    let used = bytes_for(w, Chars::new(offset.count() + len.count()));
     let to = used.count() + 48;
     &bytes[from..to]
 }

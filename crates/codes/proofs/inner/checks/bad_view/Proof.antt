@@ -1,11 +1,11 @@
 -- The same test with no sum that could wrap. Assumes nothing.
-use mathlib.Core.Path.{_≡_, sym}
+use mathlib.Core.Path.{_≡_, sym, ap, _∙_}
 use Prim.Native.Nat.{ℕ, _+_, _-_, _*_, _<_}
 use native.Mathlib.Nat.{mul-lt-mul-of-pos-right}
 use native.Mathlib.Omega.{arith}
 use borrow.Author.Tests.{lt-ltb}
 use Rattle.codes.specs.Codes.{per}
-use Rattle.codes.proofs.WidthLaws.{width-pos, per-pos, chars-bound, less-48, ltb-eq}
+use Rattle.codes.proofs.WidthLaws.{per-pos, less-48, ltb-eq}
 use borrow.Author.Needs.{needs}
 use Rattle.codes.proofs.inner.checks.bad_view.Statement.{statement}
 use Rattle.codes.proofs.inner.checks.bad_view.Tie as tie
@@ -17,31 +17,47 @@ returns c =
     let h : a .n * per (a .w) < 48 * per (a .w) = mul-lt-mul-of-pos-right (c .if1 .taken) (per-pos (s .pre .0)) in
     sym (lt-ltb (a .n * per (a .w)) (a .offset .0 + a .len .0 + 48 * per (a .w)) (omega arith))
 
-div-c : tie.Need-div-c
-div-c c = width-pos (c .before .pre .0)
+new-requires : tie.Need-new-requires
+new-requires c κs = search needs
 
-mul-room : tie.Need-mul-room
-mul-room c = omega (arith, chars-bound (c .before .pre .0) (c .before .args .n - 48) (omega arith))
+chars-in-requires : tie.Need-chars-in-requires
+chars-in-requires c κs = search needs
 
 count-requires : tie.Need-count-requires
 count-requires c κs = search needs
 
-returns-2 : tie.Need-returns-2
-returns-2 c =
-    let a = c .before .before .before .args in
-    let h = less-48 (a .n) (per (a .w)) (omega arith) in
-    sym (lt-ltb (a .n * per (a .w)) (a .offset .0 + a .len .0 + 48 * per (a .w)) (omega arith))
+-- the room is counted in characters
+room : (c : tie.After-count) → c .count .result ≡ (c .before .before .before .before .args .n - 48) * per (c .before .before .before .before .args .w)
+room c = c .count .ensures ∙ c .before .chars-in .ensures ∙ ap (λ (x : ℕ). x * per (c .before .before .before .before .args .w)) (c .before .before .new .ensures)
 
 count-requires-2 : tie.Need-count-requires-2
 count-requires-2 c κs = search needs
 
+returns-2 : tie.Need-returns-2
+returns-2 c =
+    let a = c .before .before .before .before .before .before .args in
+    let h = less-48 (a .n) (per (a .w)) (omega arith) in
+    sym (lt-ltb (a .n * per (a .w)) (a .offset .0 + a .len .0 + 48 * per (a .w)) (omega (arith, room (c .before .before))))
+
+count-requires-3 : tie.Need-count-requires-3
+count-requires-3 c κs = search needs
+
 returns-3 : tie.Need-returns-3
 returns-3 c =
-    let s = c .before .before .before .before in
-    let a = s .args in
+    let a = c .before .before .before .before .before .before .before .args in
     let h = less-48 (a .n) (per (a .w)) (omega arith) in
-    ltb-eq ((a .n - 48) * per (a .w) - c .before .before .count .result) (c .count2 .result) (a .n * per (a .w)) (a .offset .0 + a .len .0 + 48 * per (a .w)) (λ l. omega arith) (λ l. omega arith)
+    let e = room (c .before .before .before) in
+    ltb-eq (c .before .before .before .count .result - c .before .before .count2 .result) (c .count3 .result) (a .n * per (a .w)) (a .offset .0 + a .len .0 + 48 * per (a .w)) (λ l. omega arith) (λ l. omega arith)
 
 pub bad-view-spec : {M : Type 1} → statement M
 bad-view-spec =
-    tie.close (tie.spec returns div-c mul-room count-requires returns-2 count-requires-2 returns-3)
+    tie.close
+    (tie.spec
+    returns
+    new-requires
+    chars-in-requires
+    count-requires
+    count-requires-2
+    returns-2
+    count-requires-3
+    returns-3)

@@ -28,20 +28,20 @@ order-of-requires c κs = (c .before .before .before .before .before .pre, done 
 enum-told-2 : tie.Need-enum-told-2
 enum-told-2 c = search needs
 
-normal-offset-requires : tie.Need-normal-offset-requires
-normal-offset-requires c κs = search needs
+within-byte-requires : tie.Need-within-byte-requires
+within-byte-requires c κs = search needs
 
 enum-told-3 : tie.Need-enum-told-3
 enum-told-3 c = search needs
 
-normal-offset-requires-2 : tie.Need-normal-offset-requires-2
-normal-offset-requires-2 c κs = search needs
+within-byte-requires-2 : tie.Need-within-byte-requires-2
+within-byte-requires-2 c κs = search needs
 
 enum-told-4 : tie.Need-enum-told-4
 enum-told-4 c = search needs
 
-normal-offset-requires-3 : tie.Need-normal-offset-requires-3
-normal-offset-requires-3 c κs = search needs
+within-byte-requires-3 : tie.Need-within-byte-requires-3
+within-byte-requires-3 c κs = search needs
 
 returns : tie.Need-returns
 unfolding leastNumbers
@@ -56,7 +56,7 @@ returns-2 c =
     let s = c .before .before .before .before in
     let a = s .before .before .before .before .before .args in
     answer-done (pairOutcome (a .w) (a .a .now) (a .ao .0) (a .al .0) (a .b .now) (a .bo .0) (a .bl .0)) _ _ (0, 0) (done s)
-    (ap (λ (k : ℕ). (k, a .al .0)) (c .normal-offset .ensures)
+    (ap (λ (k : ℕ). (k, a .al .0)) (c .within-byte .ensures)
     ∙ ap (λ (o : Order). pick (isSecond (a .w) (a .a .now) (a .ao .0) (a .al .0) (a .b .now) (a .bo .0) (a .bl .0) o) (a .bo .0 % per (a .w), a .bl .0) (a .ao .0 % per (a .w), a .al .0)) (sym (c .before .enum-told2 .given .1) ∙ c .before .before .before .order-of .ensures))
 
 returns-3 : tie.Need-returns-3
@@ -65,7 +65,7 @@ returns-3 c =
     let s = c .before .before .before .before in
     let a = s .before .before .before .before .before .args in
     answer-done (pairOutcome (a .w) (a .a .now) (a .ao .0) (a .al .0) (a .b .now) (a .bo .0) (a .bl .0)) _ _ (0, 0) (done s)
-    (ap (λ (k : ℕ). (k, a .al .0)) (c .normal-offset2 .ensures)
+    (ap (λ (k : ℕ). (k, a .al .0)) (c .within-byte2 .ensures)
     ∙ ap (λ (o : Order). pick (isSecond (a .w) (a .a .now) (a .ao .0) (a .al .0) (a .b .now) (a .bo .0) (a .bl .0) o) (a .bo .0 % per (a .w), a .bl .0) (a .ao .0 % per (a .w), a .al .0)) (sym (c .before .enum-told3 .given .1) ∙ c .before .before .before .order-of .ensures))
 
 returns-4 : tie.Need-returns-4
@@ -74,7 +74,7 @@ returns-4 c =
     let s = c .before .before .before .before in
     let a = s .before .before .before .before .before .args in
     answer-done (pairOutcome (a .w) (a .a .now) (a .ao .0) (a .al .0) (a .b .now) (a .bo .0) (a .bl .0)) _ _ (0, 0) (done s)
-    (ap (λ (k : ℕ). (k, a .bl .0)) (c .normal-offset3 .ensures)
+    (ap (λ (k : ℕ). (k, a .bl .0)) (c .within-byte3 .ensures)
     ∙ ap (λ (o : Order). pick (isSecond (a .w) (a .a .now) (a .ao .0) (a .al .0) (a .b .now) (a .bo .0) (a .bl .0) o) (a .bo .0 % per (a .w), a .bl .0) (a .ao .0 % per (a .w), a .al .0)) (sym (c .before .enum-told4 .given .1) ∙ c .before .before .before .order-of .ensures))
 
 pub least-numbers-spec : {M : Type 1} → statement M
@@ -86,11 +86,11 @@ least-numbers-spec =
     enum-told
     order-of-requires
     enum-told-2
-    normal-offset-requires
+    within-byte-requires
     enum-told-3
-    normal-offset-requires-2
+    within-byte-requires-2
     enum-told-4
-    normal-offset-requires-3
+    within-byte-requires-3
     returns
     returns-2
     returns-3

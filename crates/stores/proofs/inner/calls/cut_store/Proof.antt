@@ -11,7 +11,8 @@ use Rattle.codes.specs.Codes.{IsWidth, up}
 use Rattle.codes.specs.Refusals.{first, tooLong, badStore, badEnd}
 use Rattle.codes.specs.declared.refusals.Outcome.the-variants.{Done}
 use Rattle.codes.proofs.WidthLaws.{up-mono}
-use Rattle.stores.specs.Stores.{tests, outcome, written, cut}
+use Rattle.stores.specs.Stores.{tests, outcome, cut}
+use Rattle.runs.specs.Runs.{written}
 use Rattle.stores.proofs.CallLaws.{Passed, done-passed, refused-says, refused-after, done-says, done-after}
 use Rattle.stores.proofs.inner.calls.cut_store.Statement.{statement}
 use Rattle.stores.proofs.inner.calls.cut_store.Tie as tie

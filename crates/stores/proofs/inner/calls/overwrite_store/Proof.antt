@@ -11,9 +11,10 @@ use Rattle.codes.specs.Codes.{IsWidth, up, charAt, code}
 use Rattle.codes.specs.Words.{pack}
 use Rattle.codes.specs.declared.refusals.Outcome.the-variants.{Done}
 use Rattle.codes.proofs.WidthLaws.{up-hi, up-mono}
-use Rattle.stores.specs.Stores.{tests, outcome, overwritten, splice, overwrite}
+use Rattle.stores.specs.Stores.{tests, outcome, overwrite}
+use Rattle.runs.specs.Runs.{overwritten, splice}
 use Rattle.stores.proofs.CallLaws.{Passed, done-passed, refused-says, refused-after, done-says, done-after}
-use Rattle.stores.proofs.RoomLaws.{room-chars}
+use Rattle.runs.proofs.RoomLaws.{room-chars}
 use Rattle.stores.proofs.inner.calls.overwrite_store.Statement.{statement}
 use Rattle.stores.proofs.inner.calls.overwrite_store.Tie as tie
 

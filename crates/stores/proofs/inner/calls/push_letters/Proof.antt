@@ -9,9 +9,10 @@ use lib.ListN.{length}
 use Rattle.codes.specs.Codes.{IsWidth, up, code}
 use Rattle.codes.specs.Refusals.{answer}
 use Rattle.codes.specs.declared.refusals.Outcome.the-variants.{Done}
-use Rattle.stores.specs.Stores.{tests, outcome, written, pushAscii}
+use Rattle.stores.specs.Stores.{tests, outcome, pushAscii}
+use Rattle.runs.specs.Runs.{written}
 use Rattle.stores.proofs.CallLaws.{Passed, done-passed, refused-says, refused-after, done-says, done-after, push-none, push-some}
-use Rattle.stores.proofs.RoomLaws.{room-chars}
+use Rattle.runs.proofs.RoomLaws.{room-chars}
 use Rattle.stores.proofs.inner.calls.push_letters.Statement.{statement}
 use Rattle.stores.proofs.inner.calls.push_letters.Tie as tie
 

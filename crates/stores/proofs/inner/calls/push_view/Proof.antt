@@ -8,10 +8,10 @@ use lib.ListN.{length}
 use Rattle.codes.specs.Codes.{IsWidth, per, up}
 use Rattle.codes.specs.Refusals.{answer}
 use Rattle.codes.specs.declared.refusals.Outcome.the-variants.{Done}
-use Rattle.stores.specs.Stores.{tests, outcome, written, seqStart, pushSeq}
-use Rattle.stores.specs.Runs.{Placed, seqChars}
+use Rattle.stores.specs.Stores.{tests, outcome, pushSeq}
+use Rattle.runs.specs.Runs.{written, seqStart, Placed, seqChars}
 use Rattle.stores.proofs.CallLaws.{Passed, done-passed, refused-says, refused-after, done-says, done-after}
-use Rattle.stores.proofs.RoomLaws.{room-chars}
+use Rattle.runs.proofs.RoomLaws.{room-chars}
 use Rattle.stores.proofs.inner.calls.push_view.Statement.{statement}
 use Rattle.stores.proofs.inner.calls.push_view.Tie as tie
 

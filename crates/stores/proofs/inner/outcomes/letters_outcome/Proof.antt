@@ -6,7 +6,7 @@ use borrow.Author.Tests.{ltb-false}
 use borrow.Author.Needs.{needs}
 use lib.Dec.{ltb}
 use Rattle.codes.specs.Codes.{up}
-use Rattle.stores.proofs.RoomLaws.{room-chars}
+use Rattle.runs.proofs.RoomLaws.{room-chars}
 use Rattle.stores.proofs.inner.outcomes.letters_outcome.Statement.{statement}
 use Rattle.stores.proofs.inner.outcomes.letters_outcome.Tie as tie
 

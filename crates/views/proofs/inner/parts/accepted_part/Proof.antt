@@ -4,15 +4,14 @@ use Prim.Native.Nat.{ℕ, _+_, _/_, _≤_}
 use native.Mathlib.Omega.{arith}
 use lib.ListN.{length}
 use Rattle.codes.specs.Codes.{per, up}
-use Rattle.codes.proofs.WidthLaws.{width-pos, per-pos}
 use Rattle.views.specs.Views.{part}
 use Rattle.views.proofs.PartLaws.{view-accepted, room-sum, room-start, room-end}
 use borrow.Author.Needs.{needs}
 use Rattle.views.proofs.inner.parts.accepted_part.Statement.{statement}
 use Rattle.views.proofs.inner.parts.accepted_part.Tie as tie
 
-div-c : tie.Need-div-c
-div-c c = width-pos (c .before .pre .0)
+byte-of-requires : tie.Need-byte-of-requires
+byte-of-requires c κs = search needs
 
 count-requires : tie.Need-count-requires
 count-requires c κs = search needs
@@ -20,9 +19,12 @@ count-requires c κs = search needs
 count-requires-2 : tie.Need-count-requires-2
 count-requires-2 c κs = search needs
 
+count-requires-3 : tie.Need-count-requires-3
+count-requires-3 c κs = search needs
+
 add-new : tie.Need-add-new
 add-new c =
-    let s = c .before .before .before in
+    let s = c .before .before .before .before .before in
     let a = s .args in
     omega (arith, room-sum (s .pre .0) (view-accepted (a .w) (length (a .bytes .now)) (a .offset .0) (a .len .0) (s .pre .1)))
 
@@ -32,25 +34,22 @@ new-requires c κs = search needs
 bytes-for-requires : tie.Need-bytes-for-requires
 bytes-for-requires c κs = search needs
 
-div-from : tie.Need-div-from
-div-from c = per-pos (c .before .before .before .before .before .pre .0)
-
-count-requires-3 : tie.Need-count-requires-3
-count-requires-3 c κs = search needs
+count-requires-4 : tie.Need-count-requires-4
+count-requires-4 c κs = search needs
 
 -- where the part begins, and the bytes that the characters take
-module _ (c : tie.After-count3) where
+module _ (c : tie.After-count4) where
   abbrev s : tie.Start
-  s = c .before .before .before .before .before .before
+  s = c .before .before .before .before .before .before .before .before
 
-  from : c .before .before .before .before .count .result / per (s .args .w) ≡ s .args .offset .0 / per (s .args .w)
-  from = ap (λ (k : ℕ). k / per (s .args .w)) (c .before .before .before .before .count .ensures)
+  from : c .before .before .before .before .before .count .result ≡ s .args .offset .0 / per (s .args .w)
+  from = c .before .before .before .before .before .count .ensures ∙ c .before .before .before .before .before .before .byte-of .ensures
 
-  used : c .count3 .result ≡ up (s .args .w) (s .args .offset .0 + s .args .len .0)
+  used : c .count4 .result ≡ up (s .args .w) (s .args .offset .0 + s .args .len .0)
   used =
-      c .count3 .ensures
+      c .count4 .ensures
       ∙ c .before .bytes-for .ensures
-      ∙ ap (up (s .args .w)) (c .before .before .new .ensures ∙ ap₂ (λ (x y : ℕ). x + y) (c .before .before .before .before .count .ensures) (c .before .before .before .count2 .ensures))
+      ∙ ap (up (s .args .w)) (c .before .before .new .ensures ∙ ap₂ (λ (x y : ℕ). x + y) (c .before .before .before .before .count2 .ensures) (c .before .before .before .count3 .ensures))
 
   starts : s .args .offset .0 / per (s .args .w) ≤ up (s .args .w) (s .args .offset .0 + s .args .len .0) + 48
   starts = room-start (s .pre .0) (view-accepted (s .args .w) (length (s .args .bytes .now)) (s .args .offset .0) (s .args .len .0) (s .pre .1))
@@ -71,20 +70,20 @@ part-result-end : tie.Need-part-result-end
 part-result-end c = omega (arith, used c, ends c)
 
 returns : tie.Need-returns
-returns c = ap₂ (λ (k e : ℕ). part k (e + 48) (c .before .before .before .before .before .before .before .args .bytes .now)) (from (c .before)) (used (c .before))
+returns c = ap₂ (λ (k e : ℕ). part k (e + 48) (s (c .before) .args .bytes .now)) (from (c .before)) (used (c .before))
 
 pub accepted-part-spec : {M : Type 1} → statement M
 accepted-part-spec =
     tie.close
     (tie.spec
-    div-c
+    byte-of-requires
     count-requires
     count-requires-2
+    count-requires-3
     add-new
     new-requires
     bytes-for-requires
-    div-from
-    count-requires-3
+    count-requires-4
     add-to
     sub-result
     part-result-start

@@ -10,8 +10,8 @@ use Rattle.views.proofs.inner.parts.normal_numbers.Tie as tie
 view-outcome-requires : tie.Need-view-outcome-requires
 view-outcome-requires c κs = search needs
 
-normal-offset-requires : tie.Need-normal-offset-requires
-normal-offset-requires c κs = search needs
+within-byte-requires : tie.Need-within-byte-requires
+within-byte-requires c κs = search needs
 
 numbers-of-requires : tie.Need-numbers-of-requires
 numbers-of-requires c κs = search needs
@@ -19,8 +19,8 @@ numbers-of-requires c κs = search needs
 returns : tie.Need-returns
 returns c =
     let a = c .before .before .before .before .args in
-    c .numbers-of .ensures ∙ ap₂ (λ (o : Outcome) (x : ℕ). answer o (x, a .len .0) (0, 0)) (c .before .before .view-outcome .ensures) (c .before .normal-offset .ensures)
+    c .numbers-of .ensures ∙ ap₂ (λ (o : Outcome) (x : ℕ). answer o (x, a .len .0) (0, 0)) (c .before .before .view-outcome .ensures) (c .before .within-byte .ensures)
 
 pub normal-numbers-spec : {M : Type 1} → statement M
 normal-numbers-spec =
-    tie.close (tie.spec view-outcome-requires normal-offset-requires numbers-of-requires returns)
+    tie.close (tie.spec view-outcome-requires within-byte-requires numbers-of-requires returns)

@@ -1,0 +1,7 @@
+pub mod RunLaws
+pub mod WholeLaws
+pub mod SpliceLaws
+pub mod FreshLaws
+pub mod RoomLaws
+pub mod SeqLaws
+pub mod WrittenLaws

@@ -1,0 +1,71 @@
+// Bytes that new letters share with what stands there: made anew, character by character.
+use codes::inner::counts::chars_in;
+use codes::inner::counts::per_byte;
+use codes::inner::tracks::add_digit;
+use codes::inner::tracks::code_of;
+use codes::inner::tracks::digit;
+use codes::units::Bytes;
+ghost use mathlib.Core.List.{map};
+ghost use mathlib.Core.Path.{_≡_};
+ghost use Prim.Native.Nat.{_+_, _^_, _≤_, _<_};
+ghost use lib.ListN.{length, getD};
+ghost use Rattle.codes.specs.Codes.{IsWidth, per, code};
+ghost use Rattle.runs.specs.Runs.{Made, freshChar, freshByte};
+
+// Character k of a byte, at place i: a letter's code or 0 from `at` up to `stop`, else the old one.
+fn fresh_char(old: u8, w: usize, k: usize, i: usize, at: usize, letters: &[u8], stop: usize) -> u8
+    requires { ⌜ IsWidth w ⌝ }
+    requires { ⌜ k < per w ⌝ }
+    ensures { λ r. ⌜ r ≡ freshChar w old at (map (code w) (now (letters .entry))) stop i k ⌝ }
+{
+    if i < at {
+        return digit(old, w, k);
+    }
+    if stop <= i {
+        return digit(old, w, k);
+    }
+    let j = i - at;
+    if j < letters.len() {
+        return code_of(w, letters[j]);
+    }
+    0
+}
+
+// Byte b, made anew.
+fn fresh_byte(old: u8, w: usize, b: usize, at: usize, letters: &[u8], stop: usize) -> u8
+    requires { ⌜ IsWidth w ⌝ }
+    requires { ⌜ b ≤ 2 ^ 28 ⌝ }
+    ensures { λ r. ⌜ r ≡ freshByte w old at (map (code w) (now (letters .entry))) stop b ⌝ }
+{
+    let c = per_byte(w).count();
+    let first = chars_in(w, Bytes::new(b)).count();
+    let mut byte: u8 = 0;
+    let mut k = 0;
+    while k < c {
+        let v = fresh_char(old, w, k, first + k, at, letters, stop);
+        byte = add_digit(byte, w, k, v);
+        k += 1;
+    }
+    byte
+}
+
+// The bytes from byte `from` up to byte `to`.
+pub fn edge_run(
+    buffer: &mut [u8],
+    w: usize,
+    from: usize,
+    to: usize,
+    at: usize,
+    letters: &[u8],
+    stop: usize,
+)
+    requires { ⌜ IsWidth w ⌝ }
+    requires { ⌜ (from ≤ to) × (to ≤ length (now buffer)) × (length (now buffer) ≤ 2 ^ 28) ⌝ }
+    ensures { λ _. ⌜ Made (now (buffer .entry)) from to (λ j. freshByte w (getD (now (buffer .entry)) j 0) at (map (code w) (now (letters .entry))) stop j) (now (buffer .exit)) ⌝ }
+{
+    let mut j = from;
+    while j < to {
+        buffer[j] = fresh_byte(buffer[j], w, j, at, letters, stop);
+        j += 1;
+    }
+}

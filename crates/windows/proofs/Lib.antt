@@ -1,0 +1,7 @@
+pub mod WindowLaws
+pub mod RunLaws
+pub mod WindowFillLaws
+pub mod TotalLaws
+pub mod Stepping
+pub mod Viewed
+pub mod Decided

@@ -1,0 +1,86 @@
+-- The invariant: the lanes below l are counted. Assumes nothing.
+use mathlib.Core.Path.{_≡_, refl, subst}
+use Prim.Native.Nat.{ℕ, _+_, _-_, _≤_}
+use native.Mathlib.Omega.{arith}
+use lib.ListN.{getD}
+use Rattle.streams.specs.Written.{Written}
+use Rattle.streams.proofs.WriteLaws.{written-none, written-more, written-all}
+use borrow.Author.Needs.{needs}
+use Rattle.windows.proofs.inner.counts.counts_after.Statement.{statement}
+use Rattle.windows.proofs.inner.counts.counts_after.Tie as tie
+
+abbrev Inv-loop : tie.InvT-loop
+Inv-loop counts enter leave out₀ l₀ out l = (l ≤ 8) × Written (λ m. getD counts m 0 + getD enter m 0 - getD leave m 0) 0 l out₀ out
+
+abbrev μ-loop : tie.MeasureT-loop
+μ-loop counts enter leave out₀ l₀ out l = 8 - l
+
+loop-holds : tie.Need-loop-holds Inv-loop μ-loop
+loop-holds c = (search needs, written-none _ 0 0 _ (search needs))
+
+mul-out : tie.Need-mul-out Inv-loop μ-loop
+mul-out c = omega arith
+
+array-read-out : tie.Need-array-read-out Inv-loop μ-loop
+array-read-out c = omega arith
+
+mul-out-2 : tie.Need-mul-out-2 Inv-loop μ-loop
+mul-out-2 c = omega arith
+
+array-read-out-2 : tie.Need-array-read-out-2 Inv-loop μ-loop
+array-read-out-2 c = omega arith
+
+add-out : tie.Need-add-out Inv-loop μ-loop
+add-out c = let h = c .before .before .pre (c .before .loop .l) (c .loop-test .taken) in omega (arith, h .0, h .1)
+
+mul-out-3 : tie.Need-mul-out-3 Inv-loop μ-loop
+mul-out-3 c = omega arith
+
+array-read-out-3 : tie.Need-array-read-out-3 Inv-loop μ-loop
+array-read-out-3 c = omega arith
+
+sub-out : tie.Need-sub-out Inv-loop μ-loop
+sub-out c = let h = c .before .before .pre (c .before .loop .l) (c .loop-test .taken) in omega (arith, h .2)
+
+mul-out-4 : tie.Need-mul-out-4 Inv-loop μ-loop
+mul-out-4 c = omega arith
+
+array-write-out : tie.Need-array-write-out Inv-loop μ-loop
+array-write-out c = omega arith
+
+add-l : tie.Need-add-l Inv-loop μ-loop
+add-l c = omega arith
+
+loop-less : tie.Need-loop-less Inv-loop μ-loop
+loop-less c = omega arith
+
+loop-again : tie.Need-loop-again Inv-loop μ-loop
+loop-again c = (omega arith, written-more _ 0 _ _ _ _ (search needs) (omega arith) refl (c .before .loop .inv .1))
+
+returns : tie.Need-returns Inv-loop μ-loop
+returns c =
+    let a = c .before .before .args in
+    let e : c .before .loop .l ≡ 8 = omega arith in
+    written-all (λ (m : ℕ). getD (a .t1) m 0 + getD (a .t2) m 0 - getD (a .t3) m 0) 8 _ (c .before .loop .out) refl (subst (λ (k : ℕ). Written (λ (m : ℕ). getD (a .t1) m 0 + getD (a .t2) m 0 - getD (a .t3) m 0) 0 k _ (c .before .loop .out)) e (c .before .loop .inv .1))
+
+pub counts-after-spec : {M : Type 1} → statement M
+counts-after-spec =
+    tie.close
+    (tie.spec
+    Inv-loop
+    μ-loop
+    loop-holds
+    mul-out
+    array-read-out
+    mul-out-2
+    array-read-out-2
+    add-out
+    mul-out-3
+    array-read-out-3
+    sub-out
+    mul-out-4
+    array-write-out
+    add-l
+    loop-less
+    loop-again
+    returns)

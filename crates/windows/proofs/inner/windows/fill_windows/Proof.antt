@@ -1,0 +1,54 @@
+-- The answer is the first call's, and the buffer is filled where it is no refusal. Assumes nothing.
+use mathlib.Core.Path.{sym, ap, _∙_}
+use lib.ListN.{length}
+use Rattle.streams.specs.Answers.{filledSays}
+use Rattle.windows.proofs.WindowFillLaws.{windows-open, windows-is-done, windows-after-refused, windows-after-done}
+use borrow.Author.Needs.{needs}
+use Rattle.windows.proofs.inner.windows.fill_windows.Statement.{statement}
+use Rattle.windows.proofs.inner.windows.fill_windows.Tie as tie
+
+windows-answer-requires : tie.Need-windows-answer-requires
+windows-answer-requires c κs = search needs
+
+enum-known-refusal : tie.Need-enum-known-refusal
+enum-known-refusal c = search needs
+
+enum-known-steps : tie.Need-enum-known-steps
+enum-known-steps c = search needs
+
+window-one-requires : tie.Need-window-one-requires
+window-one-requires c κs =
+    let f = c .before .before .before .before in
+    let s = c .before .before .before .before .before .before .before in
+    let x = c .before .before .steps .given in
+    let r = windows-open (s .args .bytes .now) (s .args .offset .0) (s .args .len .0) (s .args .context .0) (s .args .k .0) (s .args .skip) (length (s .args .out .now)) (windows-is-done (s .args .bytes .now) (s .args .offset .0) (s .args .len .0) (s .args .context .0) (s .args .k .0) (s .args .skip) (s .args .out .now) (f .windows-answer .result) (f .windows-answer .ensures) (x .0 .0) (x .0 .1 .0) (x .1)) in
+    (r .0, r .2)
+
+returns : tie.Need-returns
+returns c =
+    let f = c .before .before .before in
+    let s = c .before .before .before .before .before .before in
+    let x = c .before .refusal .given in
+    (sym (ap filledSays (x .1)) ∙ f .windows-answer .ensures, windows-after-refused (s .args .bytes .now) (s .args .offset .0) (s .args .len .0) (s .args .context .0) (s .args .k .0) (s .args .skip) (s .args .out .now) (f .windows-answer .result) (f .windows-answer .ensures) (x .0 .0) (x .1))
+
+same-length : tie.Need-same-length
+same-length c = search needs
+
+returns-2 : tie.Need-returns-2
+returns-2 c =
+    let f = c .before .before .before .before .before .before .before in
+    let s = c .before .before .before .before .before .before .before .before .before .before in
+    let x = c .before .before .before .before .before .steps .given in
+    (sym (ap filledSays (x .1)) ∙ f .windows-answer .ensures, c .before .before .window-one .ensures ∙ windows-after-done (s .args .bytes .now) (s .args .offset .0) (s .args .len .0) (s .args .context .0) (s .args .k .0) (s .args .skip) (s .args .out .now) (f .windows-answer .result) (f .windows-answer .ensures) (x .0 .0) (x .0 .1 .0) (x .1))
+
+pub fill-windows-spec : {M : Type 1} → statement M
+fill-windows-spec =
+    tie.close
+    (tie.spec
+    windows-answer-requires
+    enum-known-refusal
+    enum-known-steps
+    window-one-requires
+    returns
+    same-length
+    returns-2)

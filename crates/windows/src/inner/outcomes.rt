@@ -1,0 +1,38 @@
+// The refusals of flag windows over a view.
+use codes::refusals::Outcome;
+use codes::refusals::Refusal;
+use codes::units::Chars;
+use streams::inner::shapes::bad_shape;
+use views::inner::parts::view_outcome;
+ghost use mathlib.Core.Path.{_≡_};
+ghost use Rattle.codes.specs.Refusals.{first};
+ghost use Rattle.windows.specs.Windows.{windowTests, badWindow};
+
+// Whether a window's length lies outside its range.
+fn bad_window(k: Chars) -> bool
+    ensures { λ r. ⌜ r ≡ badWindow (k .0) .0 ⌝ }
+{
+    let n = k.count();
+    if n < 1 {
+        return true;
+    }
+    96 < n
+}
+
+// The refusals of flag windows: a view of flags, a context and a window's length.
+pub fn window_outcome(bytes: &[u8], offset: Chars, len: Chars, context: Chars, k: Chars) -> Outcome
+    ensures { λ r. ⌜ r ≡ first (windowTests (now (bytes .entry)) (offset .0) (len .0) (context .0) (k .0)) ⌝ }
+{
+    match view_outcome(1, bytes, offset, len) {
+        Outcome::Refused(refusal) => Outcome::Refused(refusal),
+        Outcome::Done => {
+            if bad_shape(context, 1) {
+                return Outcome::Refused(Refusal::BadStream);
+            }
+            if bad_window(k) {
+                return Outcome::Refused(Refusal::BadStream);
+            }
+            Outcome::Done
+        }
+    }
+}

@@ -1,0 +1,5 @@
+pub mod LetterLaws
+pub mod WriteLaws
+pub mod ReverseLaws
+pub mod Viewed
+pub mod Decided
