@@ -1,0 +1,5 @@
+-- Assumes nothing.
+use Rattle.abi.proofs.bases.stream.tsiv_bases_step.Statement.{statement}
+
+pub tsiv-bases-step-spec : {M : Type 1} → statement M
+tsiv-bases-step-spec 𝓤 H 𝓜 𝓖 𝓡 = cc
