@@ -1,6 +1,7 @@
 -- By the answer's case. Assumes nothing.
 use mathlib.Core.Path.{sym, ap, _∙_}
 use Rattle.order.specs.Answers.{comparedSays}
+use mir.Facts.{toZ-ofZ}
 use borrow.Author.Needs.{needs}
 use Rattle.abi.proofs.Said.{said-no, said-2}
 use Rattle.abi.proofs.give.compared.Statement.{statement}
@@ -22,7 +23,7 @@ refusal-no-requires : tie.Need-refusal-no-requires
 refusal-no-requires c κs = search needs
 
 returns : tie.Need-returns
-returns c = said-2 0 (c .before .order-no .ensures) (c .count .ensures) ∙ sym (ap comparedSays (c .before .before .before .answer .given .1))
+returns c = said-2 0 (toZ-ofZ (record { sfits = c .before .order-no .ok }) ∙ c .before .order-no .ensures) (c .count .ensures) ∙ sym (ap comparedSays (c .before .before .before .answer .given .1))
 
 returns-2 : tie.Need-returns-2
 returns-2 c = said-no _ (c .refusal-no .ensures) ∙ sym (ap comparedSays (c .before .before .answer2 .given .1))

@@ -28,7 +28,7 @@ returns-2 : tie.Need-returns-2
 returns-2 c = cc
 
 returns-3 : tie.Need-returns-3
-returns-3 c = said-no _ (c .refusal-no .ensures) ∙ sym (ap foundSays (c .before .before .answer3 .given .1))
+returns-3 c = said-no _ (c .refusal-no .ensures) ∙ sym (ap foundSays (c .before .before .answer2 .given .1))
 
 pub found-spec : {M : Type 1} → statement M
 found-spec =

@@ -1,6 +1,7 @@
 -- By the answer's case. Assumes nothing.
 use mathlib.Core.Path.{sym, ap, _∙_}
 use Rattle.order.specs.Answers.{orderedSays}
+use mir.Facts.{toZ-ofZ}
 use borrow.Author.Needs.{needs}
 use Rattle.abi.proofs.Said.{said-no, said-1}
 use Rattle.abi.proofs.give.ordered.Statement.{statement}
@@ -19,7 +20,7 @@ refusal-no-requires : tie.Need-refusal-no-requires
 refusal-no-requires c κs = search needs
 
 returns : tie.Need-returns
-returns c = said-1 0 (c .order-no .ensures) ∙ sym (ap orderedSays (c .before .before .answer .given .1))
+returns c = said-1 0 (toZ-ofZ (record { sfits = c .order-no .ok }) ∙ c .order-no .ensures) ∙ sym (ap orderedSays (c .before .before .answer .given .1))
 
 returns-2 : tie.Need-returns-2
 returns-2 c = said-no _ (c .refusal-no .ensures) ∙ sym (ap orderedSays (c .before .before .answer2 .given .1))
