@@ -29,7 +29,7 @@ same-length-2 : tie.Need-same-length-2
 same-length-2 c = search needs
 
 returns : tie.Need-returns
-returns c = cc
+returns c = (cc, (cc, cc))
 
 pub tsiv-bases-fill-delayed-spec : {M : Type 1} → statement M
 tsiv-bases-fill-delayed-spec =

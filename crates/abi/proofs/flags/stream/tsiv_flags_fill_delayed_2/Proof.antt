@@ -35,7 +35,7 @@ same-length-3 : tie.Need-same-length-3
 same-length-3 c = search needs
 
 returns : tie.Need-returns
-returns c = cc
+returns c = (cc, (cc, (cc, cc)))
 
 pub tsiv-flags-fill-delayed-2-spec : {M : Type 1} → statement M
 tsiv-flags-fill-delayed-2-spec =

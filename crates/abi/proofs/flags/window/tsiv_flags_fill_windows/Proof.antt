@@ -26,7 +26,7 @@ same-length : tie.Need-same-length
 same-length c = search needs
 
 returns : tie.Need-returns
-returns c = cc
+returns c = (cc, cc)
 
 pub tsiv-flags-fill-windows-spec : {M : Type 1} → statement M
 tsiv-flags-fill-windows-spec =
