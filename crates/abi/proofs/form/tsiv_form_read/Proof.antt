@@ -1,14 +1,14 @@
--- Assumes nothing.
+-- By what the call answers, and what is made of its answer. Assumes nothing.
+use mathlib.Core.Path.{_∙_}
 use borrow.Author.Needs.{needs}
 use Rattle.abi.proofs.form.tsiv_form_read.Statement.{statement}
 use Rattle.abi.proofs.form.tsiv_form_read.Tie as tie
-use Rattle.abi.proofs.form.tsiv_form_read.Reads as reads
 
 read-requires : tie.Need-read-requires
-read-requires c κs = search needs
+read-requires c κs = tt
 
 restored-requires : tie.Need-restored-requires
-restored-requires c κs = search needs
+restored-requires c κs = tt
 
 same-length : tie.Need-same-length
 same-length c = search needs
@@ -17,7 +17,9 @@ same-length-2 : tie.Need-same-length-2
 same-length-2 c = search needs
 
 returns : tie.Need-returns
-returns c = (cc, (cc, cc))
+returns c =
+    let answer = c .before .before .before .before .before .before .read .ensures in
+    (c .restored .ensures ∙ answer .0, (answer .1 .0, answer .1 .1))
 
 pub tsiv-form-read-spec : {M : Type 1} → statement M
 tsiv-form-read-spec =

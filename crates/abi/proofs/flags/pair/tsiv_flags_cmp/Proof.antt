@@ -1,29 +1,34 @@
--- Assumes nothing.
-use borrow.Author.Needs.{needs}
+-- By what the call answers, and what is made of its answer. Assumes nothing.
+use mathlib.Core.Path.{_∙_}
 use Rattle.abi.proofs.flags.pair.tsiv_flags_cmp.Statement.{statement}
 use Rattle.abi.proofs.flags.pair.tsiv_flags_cmp.Tie as tie
-use Rattle.abi.proofs.flags.pair.tsiv_flags_cmp.Reads as reads
 
 new-requires : tie.Need-new-requires
-new-requires c κs = search needs
+new-requires c κs = tt
 
 new-requires-2 : tie.Need-new-requires-2
-new-requires-2 c κs = search needs
+new-requires-2 c κs = tt
 
 new-requires-3 : tie.Need-new-requires-3
-new-requires-3 c κs = search needs
+new-requires-3 c κs = tt
 
 new-requires-4 : tie.Need-new-requires-4
-new-requires-4 c κs = search needs
+new-requires-4 c κs = tt
 
 cmp-requires : tie.Need-cmp-requires
-cmp-requires c κs = search needs
+cmp-requires c κs = tt
 
 ordered-requires : tie.Need-ordered-requires
-ordered-requires c κs = search needs
+ordered-requires c κs = tt
 
 returns : tie.Need-returns
-returns c = cc
+returns c =
+    let new = c .before .before .before .before .before .before .new .ensures in
+    let new2 = c .before .before .before .before .before .new2 .ensures in
+    let new3 = c .before .before .before .before .new3 .ensures in
+    let new4 = c .before .before .before .new4 .ensures in
+    let answer = c .before .before .cmp .ensures in
+    c .ordered .ensures ∙ (rw (new, new2, new3, new4) at answer)
 
 pub tsiv-flags-cmp-spec : {M : Type 1} → statement M
 tsiv-flags-cmp-spec =
