@@ -19,7 +19,7 @@ same-length-2 c = search needs
 returns : tie.Need-returns
 returns c =
     let answer = c .before .before .before .before .before .before .read .ensures in
-    (c .restored .ensures ∙ answer .0, (answer .1 .0, answer .1 .1))
+    (c .restored .ensures ∙ answer .0, answer .1)
 
 pub tsiv-form-read-spec : {M : Type 1} → statement M
 tsiv-form-read-spec =

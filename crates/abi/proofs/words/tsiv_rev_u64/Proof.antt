@@ -15,8 +15,8 @@ word-requires c κs = tt
 returns : tie.Need-returns
 returns c =
     let new = c .before .before .before .new .ensures in
-    let answer = c .before .before .rev-u64 .ensures in
-    c .word .ensures ∙ (rw new at answer)
+    let answer = rw new at (c .before .before .rev-u64 .ensures) in
+    c .word .ensures ∙ answer
 
 pub tsiv-rev-u64-spec : {M : Type 1} → statement M
 tsiv-rev-u64-spec = tie.close (tie.spec new-requires rev-u64-requires word-requires returns)

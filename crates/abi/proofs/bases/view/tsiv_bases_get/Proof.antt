@@ -24,8 +24,8 @@ returns c =
     let new = c .before .before .before .before .before .new .ensures in
     let new2 = c .before .before .before .before .new2 .ensures in
     let new3 = c .before .before .before .new3 .ensures in
-    let answer = c .before .before .get-at .ensures in
-    c .symbol .ensures ∙ (rw (new, new2, new3) at answer)
+    let answer = rw (new, new2, new3) at (c .before .before .get-at .ensures) in
+    c .symbol .ensures ∙ answer
 
 pub tsiv-bases-get-spec : {M : Type 1} → statement M
 tsiv-bases-get-spec =

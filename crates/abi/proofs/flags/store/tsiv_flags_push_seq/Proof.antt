@@ -27,8 +27,8 @@ returns c =
     let new = c .before .before .before .before .before .before .before .before .before .new .ensures in
     let new2 = c .before .before .before .before .before .before .before .before .new2 .ensures in
     let new3 = c .before .before .before .before .before .before .before .new3 .ensures in
-    let answer = c .before .before .before .before .before .before .push-seq .ensures in
-    (c .pushed .ensures ∙ (rw (new, new2, new3) at answer .0), rw (new, new2, new3) at answer .1)
+    let answer = rw (new, new2, new3) at (c .before .before .before .before .before .before .push-seq .ensures) in
+    (c .pushed .ensures ∙ answer .0, answer .1)
 
 pub tsiv-flags-push-seq-spec : {M : Type 1} → statement M
 tsiv-flags-push-seq-spec =
