@@ -154,8 +154,10 @@ pub extern "C" fn tsiv_bases_step(
         factor,
         j,
     );
-    *lanes = stepped.lanes;
-    give::no(stepped.outcome)
+    let plain = stepped.lanes;
+    let outcome = stepped.outcome;
+    *lanes = plain;
+    give::no(outcome)
 }
 
 #[no_mangle]
@@ -183,9 +185,12 @@ pub extern "C" fn tsiv_bases_step_delayed(
         Chars::new(delay),
         j,
     );
-    *lanes = stepped.lanes;
-    *lanes1 = stepped.delayed;
-    give::no(stepped.outcome)
+    let plain = stepped.lanes;
+    let late = stepped.delayed;
+    let outcome = stepped.outcome;
+    *lanes = plain;
+    *lanes1 = late;
+    give::no(outcome)
 }
 
 #[no_mangle]
@@ -217,8 +222,12 @@ pub extern "C" fn tsiv_bases_step_delayed_2(
         Chars::new(second),
         j,
     );
-    *lanes = stepped.lanes;
-    *lanes1 = stepped.first;
-    *lanes2 = stepped.second;
-    give::no(stepped.outcome)
+    let plain = stepped.lanes;
+    let late1 = stepped.first;
+    let late2 = stepped.second;
+    let outcome = stepped.outcome;
+    *lanes = plain;
+    *lanes1 = late1;
+    *lanes2 = late2;
+    give::no(outcome)
 }

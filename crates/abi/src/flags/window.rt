@@ -57,8 +57,9 @@ pub extern "C" fn tsiv_flags_step_windows(
     ensures answers { λ _. ⌜ now (answers .exit) ≡ runAnswers (now (bytes .entry)) offset len context k (state (now (counts .entry)) step) ⌝ }
     ensures state { λ _. ⌜ state (now («next_counts» .exit)) (now («next_step» .exit)) ≡ runState (now (bytes .entry)) offset len context k (state (now (counts .entry)) step) ⌝ }
 {
+    let before = *counts;
     let state = Windows {
-        counts: *counts,
+        counts: before,
         step,
     };
     let ran = step_windows(
@@ -69,8 +70,12 @@ pub extern "C" fn tsiv_flags_step_windows(
         Chars::new(k),
         state,
     );
-    *answers = ran.answers;
-    *next_counts = ran.state.counts;
-    *next_step = ran.state.step;
-    give::no(ran.outcome)
+    let windows = ran.answers;
+    let next = ran.state;
+    let after = next.counts;
+    let outcome = ran.outcome;
+    *answers = windows;
+    *next_counts = after;
+    *next_step = next.step;
+    give::no(outcome)
 }
