@@ -1,1 +1,2 @@
 mod Said
+mod PartLaws

@@ -17,8 +17,9 @@ use streams::answers::Filled;
 use streams::answers::Shape;
 ghost use mathlib.Core.Path.{_≡_};
 ghost use Rattle.abi.specs.Face.{said};
+ghost use Rattle.abi.specs.Parts.{none};
 ghost use Rattle.codes.specs.Answers.{symbolSays, wordSays, word128Says};
-ghost use Rattle.codes.specs.Refusals.{number, numberOf};
+ghost use Rattle.codes.specs.Refusals.{answer, number, numberOf};
 ghost use Rattle.forms.specs.Answers.{wroteSays, restoredSays};
 ghost use Rattle.order.specs.Answers.{comparedSays, orderedSays, equalitySays, foundSays};
 ghost use Rattle.order.specs.Order.{orderNumber};
@@ -265,6 +266,38 @@ pub(crate) fn restored(answer: Restored, len: &mut usize) -> u32
         }
         Restored::Refused(refusal) => {
             *len = 0;
+            refusal_no(refusal)
+        }
+    }
+}
+
+// A part that is handed back, and zeros beside a refusal.
+pub(crate) fn part(
+    outcome: Outcome,
+    first: usize,
+    bytes: usize,
+    offset: usize,
+    len: usize,
+    at: &mut usize,
+    size: &mut usize,
+    part_offset: &mut usize,
+    part_len: &mut usize,
+) -> u32
+    ensures { λ r. ⌜ said r (now (at .exit), now (size .exit), now («part_offset» .exit), now («part_len» .exit)) ≡ answer outcome (first, bytes, offset, len) none ⌝ }
+{
+    match outcome {
+        Outcome::Done => {
+            *at = first;
+            *size = bytes;
+            *part_offset = offset;
+            *part_len = len;
+            0
+        }
+        Outcome::Refused(refusal) => {
+            *at = 0;
+            *size = 0;
+            *part_offset = 0;
+            *part_len = 0;
             refusal_no(refusal)
         }
     }

@@ -4,4 +4,6 @@ pub mod flags;
 pub mod form;
 mod give;
 pub mod letters;
+mod parts;
+pub mod rooms;
 pub mod words;
