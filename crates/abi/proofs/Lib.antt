@@ -1,2 +1,3 @@
 mod Said
 mod PartLaws
+pub mod Places
