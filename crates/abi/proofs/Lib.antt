@@ -1,0 +1,3 @@
+mod Said
+mod PartLaws
+pub mod Places

@@ -1,0 +1,26 @@
+-- By what the call answers, and what is made of its answer. Assumes nothing.
+use mathlib.Core.Path.{_∙_}
+use borrow.Author.Needs.{needs}
+use Rattle.abi.proofs.form.tsiv_form_read.Statement.{statement}
+use Rattle.abi.proofs.form.tsiv_form_read.Tie as tie
+
+read-requires : tie.Need-read-requires
+read-requires c κs = tt
+
+restored-requires : tie.Need-restored-requires
+restored-requires c κs = tt
+
+same-length : tie.Need-same-length
+same-length c = search needs
+
+same-length-2 : tie.Need-same-length-2
+same-length-2 c = search needs
+
+returns : tie.Need-returns
+returns c =
+    let answer = c .before .before .before .before .before .before .read .ensures in
+    (c .restored .ensures ∙ answer .0, answer .1)
+
+pub tsiv-form-read-spec : {M : Type 1} → statement M
+tsiv-form-read-spec =
+    tie.close (tie.spec read-requires restored-requires same-length same-length-2 returns)

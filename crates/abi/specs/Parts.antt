@@ -1,0 +1,38 @@
+-- Parts of a lent buffer that are handed back: the first byte and the count of bytes within the buffer, the offset and the length.
+-- Assumes nothing.
+use mathlib.Core.Bool.{Bool, true, false}
+use mathlib.Core.List.{List, [], _∷_, _++_}
+use Prim.Native.Nat.{ℕ, _+_, _-_, _/_, _%_}
+use lib.ListN.{length}
+use Rattle.codes.specs.Codes.{per, pick}
+use Rattle.codes.specs.Refusals.{Answer, answer, first, badEnd, badStart}
+use Rattle.order.specs.Order.{pairOutcome, pairOrder, isSecond}
+use Rattle.views.specs.Views.{viewTests, normalPart}
+
+-- first byte, count of bytes, offset and length
+abbrev pub Part : Type 0
+Part = ℕ × ℕ × ℕ × ℕ
+
+abbrev pub none : Part
+none = (0, 0, 0, 0)
+
+-- the normalised part of a view
+abbrev pub partOf : ℕ → List ℕ → ℕ → ℕ → Part
+partOf w bs o len = (o / per w, length (normalPart w bs o len), o % per w, len)
+
+-- a view is made over all its bytes
+unfoldable pub madePart : ℕ → List ℕ → ℕ → ℕ → Answer Part
+madePart w bs o len = answer (first (viewTests w (length bs) o len)) (0, length bs, o, len) none
+
+-- slicing keeps the buffer
+unfoldable pub slicedPart : ℕ → List ℕ → ℕ → ℕ → ℕ → ℕ → Answer Part
+slicedPart w bs o len start end =
+    answer (first (viewTests w (length bs) o len ++ badEnd len end ∷ badStart start end ∷ [])) (0, length bs, o + start, end - start) none
+
+unfoldable pub normalisedPart : ℕ → List ℕ → ℕ → ℕ → Answer Part
+normalisedPart w bs o len = answer (first (viewTests w (length bs) o len)) (partOf w bs o len) none
+
+-- whether the second view comes first, and the normalised part of the one that does
+unfoldable pub leastPart : ℕ → List ℕ → ℕ → ℕ → List ℕ → ℕ → ℕ → Answer (Bool × Part)
+leastPart w xs ao al bs bo bl =
+    answer (pairOutcome w xs ao al bs bo bl) (pick (isSecond w xs ao al bs bo bl (pairOrder w xs ao al bs bo bl)) (true, partOf w bs bo bl) (false, partOf w xs ao al)) (false, none)

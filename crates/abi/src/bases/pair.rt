@@ -1,0 +1,150 @@
+// Two views of bases.
+use crate::give;
+use crate::parts;
+use codes::units::Chars;
+use order::bases::cmp;
+use order::bases::cmp_lcp;
+use order::bases::eq;
+use order::bases::find;
+ghost use mathlib.Core.Bool.{Bool};
+ghost use mathlib.Core.Path.{_≡_};
+ghost use Rattle.abi.specs.Face.{said};
+ghost use Rattle.abi.specs.Parts.{Part, leastPart};
+ghost use Rattle.order.specs.Order.{compared, ordered, equalled, found};
+
+#[no_mangle]
+pub extern "C" fn tsiv_bases_cmp_lcp(
+    a: &[u8],
+    ao: usize,
+    al: usize,
+    b: &[u8],
+    bo: usize,
+    bl: usize,
+    order: &mut i32,
+    common: &mut usize,
+) -> u32
+    ensures { λ r. ⌜ said r (now (order .exit), now (common .exit)) ≡ compared 2 (now (a .entry)) ao al (now (b .entry)) bo bl ⌝ }
+{
+    give::compared(
+        cmp_lcp(
+            a,
+            Chars::new(ao),
+            Chars::new(al),
+            b,
+            Chars::new(bo),
+            Chars::new(bl),
+        ),
+        order,
+        common,
+    )
+}
+
+#[no_mangle]
+pub extern "C" fn tsiv_bases_cmp(
+    a: &[u8],
+    ao: usize,
+    al: usize,
+    b: &[u8],
+    bo: usize,
+    bl: usize,
+    order: &mut i32,
+) -> u32
+    ensures { λ r. ⌜ said r (now (order .exit)) ≡ ordered 2 (now (a .entry)) ao al (now (b .entry)) bo bl ⌝ }
+{
+    give::ordered(
+        cmp(
+            a,
+            Chars::new(ao),
+            Chars::new(al),
+            b,
+            Chars::new(bo),
+            Chars::new(bl),
+        ),
+        order,
+    )
+}
+
+#[no_mangle]
+pub extern "C" fn tsiv_bases_eq(
+    a: &[u8],
+    ao: usize,
+    al: usize,
+    b: &[u8],
+    bo: usize,
+    bl: usize,
+    equal: &mut bool,
+) -> u32
+    ensures { λ r. ⌜ said r (now (equal .exit)) ≡ equalled 2 (now (a .entry)) ao al (now (b .entry)) bo bl ⌝ }
+{
+    give::equality(
+        eq(
+            a,
+            Chars::new(ao),
+            Chars::new(al),
+            b,
+            Chars::new(bo),
+            Chars::new(bl),
+        ),
+        equal,
+    )
+}
+
+#[no_mangle]
+pub extern "C" fn tsiv_bases_find(
+    pattern: &[u8],
+    po: usize,
+    pl: usize,
+    text: &[u8],
+    to: usize,
+    tl: usize,
+    there: &mut bool,
+    place: &mut usize,
+) -> u32
+    ensures { λ r. ⌜ said r (now (there .exit), now (place .exit)) ≡ found 2 (now (pattern .entry)) po pl (now (text .entry)) to tl ⌝ }
+{
+    give::found(
+        find(
+            pattern,
+            Chars::new(po),
+            Chars::new(pl),
+            text,
+            Chars::new(to),
+            Chars::new(tl),
+        ),
+        there,
+        place,
+    )
+}
+
+// The part of whichever view comes first, and whether that is the second.
+#[no_mangle]
+pub extern "C" fn tsiv_bases_least(
+    a: &[u8],
+    ao: usize,
+    al: usize,
+    b: &[u8],
+    bo: usize,
+    bl: usize,
+    second: &mut bool,
+    at: &mut usize,
+    size: &mut usize,
+    part_offset: &mut usize,
+    part_len: &mut usize,
+) -> u32
+    ensures { λ r. ⌜ said {A = Bool × Part} r (now (second .exit), (now (at .exit), now (size .exit), now («part_offset» .exit), now («part_len» .exit))) ≡ leastPart 2 (now (a .entry)) ao al (now (b .entry)) bo bl ⌝ }
+{
+    parts::least(
+        2,
+        a,
+        ao,
+        al,
+        b,
+        bo,
+        bl,
+        second,
+        at,
+        size,
+        part_offset,
+        part_len,
+    )
+}

@@ -1,0 +1,6 @@
+// Flags: every call at width 1.
+pub mod pair;
+pub mod store;
+pub mod stream;
+pub mod view;
+pub mod window;
