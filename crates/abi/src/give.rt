@@ -191,8 +191,8 @@ pub(crate) fn kept(answer: Kept, len: &mut usize) -> u32
             *len = new.count();
             0
         }
-        Kept::Refused { refusal, len: old } => {
-            *len = old.count();
+        Kept::Refused { refusal, len: same } => {
+            *len = same.count();
             refusal_no(refusal)
         }
     }

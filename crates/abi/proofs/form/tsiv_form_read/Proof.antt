@@ -1,6 +1,5 @@
 -- By what the call answers, and what is made of its answer. Assumes nothing.
 use mathlib.Core.Path.{_∙_}
-use borrow.Author.Needs.{needs}
 use Rattle.abi.proofs.form.tsiv_form_read.Statement.{statement}
 use Rattle.abi.proofs.form.tsiv_form_read.Tie as tie
 
@@ -11,10 +10,10 @@ restored-requires : tie.Need-restored-requires
 restored-requires c κs = tt
 
 same-length : tie.Need-same-length
-same-length c = search needs
+same-length c = c .before .before .before .before .before .before .read .kept .1 .0
 
 same-length-2 : tie.Need-same-length-2
-same-length-2 c = search needs
+same-length-2 c = c .before .before .before .before .before .before .read .kept .1 .1 .0
 
 returns : tie.Need-returns
 returns c =

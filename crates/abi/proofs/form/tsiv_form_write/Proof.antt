@@ -1,6 +1,5 @@
 -- By what the call answers, and what is made of its answer. Assumes nothing.
 use mathlib.Core.Path.{_∙_}
-use borrow.Author.Needs.{needs}
 use Rattle.abi.proofs.form.tsiv_form_write.Statement.{statement}
 use Rattle.abi.proofs.form.tsiv_form_write.Tie as tie
 
@@ -23,7 +22,7 @@ wrote-requires : tie.Need-wrote-requires
 wrote-requires c κs = tt
 
 same-length : tie.Need-same-length
-same-length c = search needs
+same-length c = c .before .before .before .before .write .kept .1 .1 .1 .1 .1 .1 .0
 
 returns : tie.Need-returns
 returns c =

@@ -10,7 +10,7 @@ enum-known-answer : tie.Need-enum-known-answer
 enum-known-answer c = search needs
 
 count-requires : tie.Need-count-requires
-count-requires c κs = search needs
+count-requires c κs = tt
 
 enum-told : tie.Need-enum-told
 enum-told c = search needs
@@ -19,13 +19,13 @@ enum-known-answer-2 : tie.Need-enum-known-answer-2
 enum-known-answer-2 c = search needs
 
 refusal-no-requires : tie.Need-refusal-no-requires
-refusal-no-requires c κs = search needs
+refusal-no-requires c κs = tt
 
 returns : tie.Need-returns
 returns c = said-2 0 refl (c .count .ensures) ∙ sym (ap foundSays (c .before .before .answer .given .1))
 
 returns-2 : tie.Need-returns-2
-returns-2 c = cc
+returns-2 c = sym (ap foundSays (c .enum-told .given .1))
 
 returns-3 : tie.Need-returns-3
 returns-3 c = said-no _ (c .refusal-no .ensures) ∙ sym (ap foundSays (c .before .before .answer2 .given .1))

@@ -10,16 +10,16 @@ enum-known-answer : tie.Need-enum-known-answer
 enum-known-answer c = search needs
 
 count-requires : tie.Need-count-requires
-count-requires c κs = search needs
+count-requires c κs = tt
 
 enum-known-answer-2 : tie.Need-enum-known-answer-2
 enum-known-answer-2 c = search needs
 
 count-requires-2 : tie.Need-count-requires-2
-count-requires-2 c κs = search needs
+count-requires-2 c κs = tt
 
 refusal-no-requires : tie.Need-refusal-no-requires
-refusal-no-requires c κs = search needs
+refusal-no-requires c κs = tt
 
 returns : tie.Need-returns
 returns c = said-3 0 refl refl (c .count .ensures) ∙ sym (ap keptSays (c .before .before .answer .given .1))

@@ -1,4 +1,6 @@
--- Assumes nothing.
+-- By the order's case. Assumes nothing.
+use mathlib.Core.Path.{sym, ap}
+use Rattle.order.specs.Order.{orderNumber}
 use borrow.Author.Needs.{needs}
 use Rattle.abi.proofs.give.order_no.Statement.{statement}
 use Rattle.abi.proofs.give.order_no.Tie as tie
@@ -13,13 +15,13 @@ enum-told-3 : tie.Need-enum-told-3
 enum-told-3 c = search needs
 
 returns : tie.Need-returns
-returns c = cc
+returns c = sym (ap orderNumber (c .enum-told .given .1))
 
 returns-2 : tie.Need-returns-2
-returns-2 c = cc
+returns-2 c = sym (ap orderNumber (c .enum-told2 .given .1))
 
 returns-3 : tie.Need-returns-3
-returns-3 c = cc
+returns-3 c = sym (ap orderNumber (c .enum-told3 .given .1))
 
 pub order-no-spec : {M : Type 1} → statement M
 order-no-spec = tie.close (tie.spec enum-told enum-told-2 enum-told-3 returns returns-2 returns-3)

@@ -10,22 +10,22 @@ enum-known-answer : tie.Need-enum-known-answer
 enum-known-answer c = search needs
 
 count-requires : tie.Need-count-requires
-count-requires c κs = search needs
+count-requires c κs = tt
 
 count-requires-2 : tie.Need-count-requires-2
-count-requires-2 c κs = search needs
+count-requires-2 c κs = tt
 
 count-requires-3 : tie.Need-count-requires-3
-count-requires-3 c κs = search needs
+count-requires-3 c κs = tt
 
 enum-known-answer-2 : tie.Need-enum-known-answer-2
 enum-known-answer-2 c = search needs
 
 count-requires-4 : tie.Need-count-requires-4
-count-requires-4 c κs = search needs
+count-requires-4 c κs = tt
 
 refusal-no-requires : tie.Need-refusal-no-requires
-refusal-no-requires c κs = search needs
+refusal-no-requires c κs = tt
 
 returns : tie.Need-returns
 returns c = said-3 0 (c .before .before .count .ensures) (c .before .count2 .ensures) (c .count3 .ensures) ∙ sym (ap pushedSays (c .before .before .before .before .answer .given .1))

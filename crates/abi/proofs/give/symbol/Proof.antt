@@ -13,7 +13,7 @@ enum-known-answer-2 : tie.Need-enum-known-answer-2
 enum-known-answer-2 c = search needs
 
 refusal-no-requires : tie.Need-refusal-no-requires
-refusal-no-requires c κs = search needs
+refusal-no-requires c κs = tt
 
 returns : tie.Need-returns
 returns c = sym (ap symbolSays (c .before .answer .given .1))

@@ -1,6 +1,5 @@
 -- By what the call answers, and what is made of its answer. Assumes nothing.
 use mathlib.Core.Path.{_∙_}
-use borrow.Author.Needs.{needs}
 use Rattle.abi.proofs.bases.stream.tsiv_bases_fill.Statement.{statement}
 use Rattle.abi.proofs.bases.stream.tsiv_bases_fill.Tie as tie
 
@@ -20,7 +19,7 @@ filled-requires : tie.Need-filled-requires
 filled-requires c κs = tt
 
 same-length : tie.Need-same-length
-same-length c = search needs
+same-length c = c .before .before .before .before .before .fill .kept .1 .1 .1 .1 .1 .0
 
 returns : tie.Need-returns
 returns c =

@@ -1,6 +1,5 @@
 -- By what the call answers, and what is made of its answer. Assumes nothing.
 use mathlib.Core.Path.{_∙_}
-use borrow.Author.Needs.{needs}
 use Rattle.abi.proofs.bases.stream.tsiv_bases_fill_delayed_2.Statement.{statement}
 use Rattle.abi.proofs.bases.stream.tsiv_bases_fill_delayed_2.Tie as tie
 
@@ -26,13 +25,13 @@ filled-requires : tie.Need-filled-requires
 filled-requires c κs = tt
 
 same-length : tie.Need-same-length
-same-length c = search needs
+same-length c = c .before .before .before .before .before .before .before .before .before .fill-delayed-2 .kept .1 .1 .1 .1 .1 .1 .1 .0
 
 same-length-2 : tie.Need-same-length-2
-same-length-2 c = search needs
+same-length-2 c = c .before .before .before .before .before .before .before .before .before .fill-delayed-2 .kept .1 .1 .1 .1 .1 .1 .1 .1 .0
 
 same-length-3 : tie.Need-same-length-3
-same-length-3 c = search needs
+same-length-3 c = c .before .before .before .before .before .before .before .before .before .fill-delayed-2 .kept .1 .1 .1 .1 .1 .1 .1 .1 .1 .0
 
 returns : tie.Need-returns
 returns c =
