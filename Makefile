@@ -1,15 +1,35 @@
-# make test   the one test command: its last line is 'N passed, 0 failed', printed only where everything passed
-# make run    the program on a sample, or on a file: make run FASTA=path
+# make test     the one test command: its last line is 'N passed, 0 failed', printed only where everything passed
+# make run      the program on a sample, or on a file: make run FASTA=path
+# make lib      the archive, the C header and a pkg-config file, under target/tsivelaro
+# make oracle   ours against the original, over a million comparisons
+# make bench    ours against the original, timed; and the program against another FASTA reader
+# make fuzz     random calls of the C face: make fuzz CALLS=100000000 SEED=7
 
 FASTA = samples/reads.fa
+SOURCES := $(shell find crates -name '*.rt' -o -name '*.antt')
+LIB = target/tsivelaro/lib/libtsivelaro.a
 
-.PHONY: test run
+.PHONY: test run lib oracle bench fuzz
 
 test:
 	@tools/test
 
 run: target/bin/screen
-	@target/bin/screen <"$(FASTA)"
+	@tools/run target/bin/screen <"$(FASTA)"
 
 target/bin/screen:
 	@rt check screen
+
+lib: $(LIB)
+
+$(LIB): crates.txt include/tsivelaro.h tools/lib $(SOURCES)
+	@tools/lib
+
+oracle: $(LIB)
+	@oracle/compare/run
+
+bench: $(LIB) target/bin/screen
+	@bench/run
+
+fuzz:
+	@tests/run-fuzz

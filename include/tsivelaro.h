@@ -1,0 +1,371 @@
+/*
+ * Tsivelaro: packed DNA tracks. Two-bit bases, one-bit ambiguity flags, words, comparison, reverse complement, stores, lane
+ * streams, a stored form. Every function is proved to meet its contract, to be safe and to end, on any bytes and numbers
+ * (crates/abi; docs/PROMISES.md says what is promised and what is trusted).
+ *
+ * CONVENTIONS, for every call below
+ *
+ *   Units       A size named `NAME_size` counts bytes of the buffer NAME (entries where NAME is of uint32_t), and so do `at` and
+ *               `size`. Offsets, lengths, indices and places count characters: two bits each for `tsiv_bases_..`, one bit each
+ *               for `tsiv_flags_..`.
+ *   Characters  Character i stands in byte i / C8, at bit width * (i mod C8), low bits first; C8 is 4 for bases and 8 for flags.
+ *               Bases are A 0, C 1, T 2, G 3; flags are 0 clear, 1 ambiguous. The bytes are the same on every machine.
+ *   Views       Bytes, an offset and a length. 48 bytes must be lent behind the last character; neither they nor any other bit
+ *               outside the view matter to any number, character or written byte.
+ *   Stores      A buffer and a length in characters, the 48 bytes behind included: TSIV_BASES_ROOM(n), TSIV_FLAGS_ROOM(n).
+ *   Answer      The refusal number: 0 where the call is done, else the lowest of the numbers named whose condition holds, never
+ *               another. Refused, every number behind a pointer is 0, but for a store's length, which stays what it was, and
+ *               not one byte of a buffer changes.
+ *   Pointers    Read or written during the call alone. Buffers of bytes have any alignment, all else its type's own. No two of
+ *               a call's pointers may overlap, unless both are only read. A buffer of size 0 may be NULL; no other pointer may.
+ *   Threads     No global state, no allocation, no system call. Any number of threads may read the same bytes at once; while one
+ *               writes a buffer no other may use it.
+ *
+ * LIMITS      a view's bytes, a store's buffer, a stored form                 2^28 bytes (268,435,456)
+ *             characters of a stored form                                    2^29
+ *             a word of 64 bits: bases, flags                                 32, 64
+ *             a word of 128 bits, as a low and a high half: bases, flags      64, 128
+ *             a stream's context and delays                                   1 and 0 to 2^31
+ *             a window of flags                                               1 to 96
+ */
+#ifndef TSIVELARO_H
+#define TSIVELARO_H
+
+#include <stdbool.h>
+#include <stddef.h>
+#include <stdint.h>
+
+#ifdef __cplusplus
+extern "C" {
+#endif
+
+#if defined(__GNUC__) || defined(__clang__)
+#define TSIV_USE __attribute__((warn_unused_result))
+#else
+#define TSIV_USE
+#endif
+
+/* ---- Version: major, minor, patch in 16, 8 and 8 bits; of this header, and of the archive that is linked. */
+
+#define TSIV_VERSION_MAJOR 4
+#define TSIV_VERSION_MINOR 0
+#define TSIV_VERSION_PATCH 0
+#define TSIV_VERSION ((uint32_t)TSIV_VERSION_MAJOR << 16 | TSIV_VERSION_MINOR << 8 | TSIV_VERSION_PATCH)
+
+uint32_t tsiv_version(void);
+
+/* ---- Refusals */
+
+enum {
+    TSIV_DONE = 0,
+    TSIV_TOO_LONG = 1,   /* a view's bytes, a store's buffer or a stored form to be read exceeds 2^28 bytes */
+    TSIV_BAD_STORE = 2,  /* the bytes of a store's length and 48 more exceed its buffer */
+    TSIV_BAD_VIEW = 3,   /* a view's offset, length and 48 bytes behind exceed its bytes, in exact arithmetic */
+    TSIV_BAD_RANGE = 4,  /* an index not below the length; an end beyond it; a start after its end; unequal tracks */
+    TSIV_BAD_WORD = 5,   /* a word's length outside its range */
+    TSIV_BAD_LETTER = 6, /* a byte that is no such letter; a code above 3 */
+    TSIV_BAD_FORM = 7,   /* bytes that are no stored form */
+    TSIV_BAD_STREAM = 8, /* stream numbers outside their ranges */
+    TSIV_NO_ROOM = 9     /* an output buffer is shorter than the answer needs */
+};
+
+/* A refusal's name, as above without the prefix; "?" for a number that is none. */
+static inline const char *tsiv_refusal_name(uint32_t number)
+{
+    switch (number) {
+    case TSIV_DONE: return "DONE";
+    case TSIV_TOO_LONG: return "TOO_LONG";
+    case TSIV_BAD_STORE: return "BAD_STORE";
+    case TSIV_BAD_VIEW: return "BAD_VIEW";
+    case TSIV_BAD_RANGE: return "BAD_RANGE";
+    case TSIV_BAD_WORD: return "BAD_WORD";
+    case TSIV_BAD_LETTER: return "BAD_LETTER";
+    case TSIV_BAD_FORM: return "BAD_FORM";
+    case TSIV_BAD_STREAM: return "BAD_STREAM";
+    case TSIV_NO_ROOM: return "NO_ROOM";
+    default: return "?";
+    }
+}
+
+/* ---- Room: as a macro for constants, and as a function. Letters take a byte each. */
+
+/* The bytes of a store, or of what tsiv_.._to_revcomp writes, of n bases or n flags. */
+#define TSIV_BASES_ROOM(n) ((size_t)(n) / 4 + ((size_t)(n) % 4 != 0) + 48)
+#define TSIV_FLAGS_ROOM(n) ((size_t)(n) / 8 + ((size_t)(n) % 8 != 0) + 48)
+size_t tsiv_bases_room(size_t n);
+size_t tsiv_flags_room(size_t n);
+
+/* The bytes of the stored form of n characters, n up to 2^29. */
+#define TSIV_FORM_ROOM(n)                                                                                              \
+    ((size_t)1 +                                                                                                       \
+     ((size_t)(n) < 1 << 7    ? 1                                                                                      \
+      : (size_t)(n) < 1 << 14 ? 2                                                                                      \
+      : (size_t)(n) < 1 << 21 ? 3                                                                                      \
+      : (size_t)(n) < 1 << 28 ? 4                                                                                      \
+                              : 5) +                                                                                   \
+     ((size_t)(n) + 3) / 4 + ((size_t)(n) + 7) / 8)
+size_t tsiv_form_room(size_t n);
+
+/* The entries of so many steps of a stream or of windows; the largest size_t where that is more. */
+#define TSIV_LANES_ROOM(steps) ((size_t)8 * (size_t)(steps))
+size_t tsiv_lanes_room(size_t steps);
+
+/* ---- Letters and codes */
+
+/* *code: the code of one of ACGTacgt. BAD_LETTER for any other byte. */
+TSIV_USE uint32_t tsiv_pack_char(uint8_t byte, uint8_t *code);
+/* The code that packing gives any byte, (byte / 2) mod 4: N gives 3. */
+TSIV_USE uint8_t tsiv_pack_char_lossy(uint8_t byte);
+/* 0 for one of ACGTacgt, 1 for every other byte. */
+TSIV_USE uint8_t tsiv_char_is_ambiguous(uint8_t byte);
+/* *byte: the capital letter of a code. BAD_LETTER for a code above 3. */
+TSIV_USE uint32_t tsiv_unpack_base(uint8_t code, uint8_t *byte);
+/* *pair: the capital letter that pairs with A, C, G or T. BAD_LETTER for any other byte. */
+TSIV_USE uint32_t tsiv_complement_char(uint8_t byte, uint8_t *pair);
+/* *pair: the code of the base that pairs with a base, code xor 2. BAD_LETTER for a code above 3. */
+TSIV_USE uint32_t tsiv_complement_base(uint8_t code, uint8_t *pair);
+
+/* ---- Words: character i at bit width * i. Bits above the length are ignored; those of a result are 0. */
+
+/* *to, or *low and *high: the word of the letters' codes, any bytes. BAD_WORD for more than 32, or 64, letters. */
+TSIV_USE uint32_t tsiv_pack_kmer_lossy(const uint8_t *letters, size_t letters_size, uint64_t *to);
+TSIV_USE uint32_t tsiv_pack_kmer_u128_lossy(const uint8_t *letters, size_t letters_size, uint64_t *low, uint64_t *high);
+
+/* Writes the k low bases of a word as capital letters to out[0 .. k]. BAD_WORD for k above 32, or 64; NO_ROOM. */
+TSIV_USE uint32_t tsiv_unpack_kmer(uint64_t word, size_t k, uint8_t *out, size_t out_size);
+TSIV_USE uint32_t tsiv_unpack_kmer_u128(uint64_t low, uint64_t high, size_t k, uint8_t *out, size_t out_size);
+
+/* The reverse complement of the len low bases of a word. BAD_WORD for len 0 or above 32, or 64. */
+TSIV_USE uint32_t tsiv_revcomp_u64(uint64_t word, size_t len, uint64_t *to);
+TSIV_USE uint32_t tsiv_revcomp_u128(uint64_t low, uint64_t high, size_t len, uint64_t *to_low, uint64_t *to_high);
+
+/* The len low flags of a word in reverse. BAD_WORD for len 0 or above 64, or 128. */
+TSIV_USE uint32_t tsiv_rev_u64(uint64_t word, size_t len, uint64_t *to);
+TSIV_USE uint32_t tsiv_rev_u128(uint64_t low, uint64_t high, size_t len, uint64_t *to_low, uint64_t *to_high);
+
+/* ---- One view: every call gives TOO_LONG, then BAD_VIEW, before what it names. */
+
+/* *code: character i. BAD_RANGE for i not below len. */
+TSIV_USE uint32_t tsiv_bases_get(const uint8_t *bytes, size_t bytes_size, size_t offset, size_t len, size_t i,
+                                 uint8_t *code);
+TSIV_USE uint32_t tsiv_flags_get(const uint8_t *bytes, size_t bytes_size, size_t offset, size_t len, size_t i,
+                                 uint8_t *code);
+
+/* *code: character i of the characters from start up to end. BAD_RANGE where tsiv_.._slice gives it, and for i not below end - start. */
+TSIV_USE uint32_t tsiv_bases_get_sliced(const uint8_t *bytes, size_t bytes_size, size_t offset, size_t len,
+                                        size_t start, size_t end, size_t i, uint8_t *code);
+TSIV_USE uint32_t tsiv_flags_get_sliced(const uint8_t *bytes, size_t bytes_size, size_t offset, size_t len,
+                                        size_t start, size_t end, size_t i, uint8_t *code);
+
+/*
+ * Views made from a view. The part is the bytes[*at .. *at + *size], with the offset *part_offset and the length *part_len.
+ * tsiv_.._view checks: it gives the view itself. tsiv_.._slice keeps the bytes: the characters from start up to end; BAD_RANGE
+ * for end above len, or start above end. tsiv_.._normalise gives the fewest bytes, with an offset below C8.
+ */
+TSIV_USE uint32_t tsiv_bases_view(const uint8_t *bytes, size_t bytes_size, size_t offset, size_t len, size_t *at,
+                                  size_t *size, size_t *part_offset, size_t *part_len);
+TSIV_USE uint32_t tsiv_flags_view(const uint8_t *bytes, size_t bytes_size, size_t offset, size_t len, size_t *at,
+                                  size_t *size, size_t *part_offset, size_t *part_len);
+TSIV_USE uint32_t tsiv_bases_slice(const uint8_t *bytes, size_t bytes_size, size_t offset, size_t len, size_t start,
+                                   size_t end, size_t *at, size_t *size, size_t *part_offset, size_t *part_len);
+TSIV_USE uint32_t tsiv_flags_slice(const uint8_t *bytes, size_t bytes_size, size_t offset, size_t len, size_t start,
+                                   size_t end, size_t *at, size_t *size, size_t *part_offset, size_t *part_len);
+TSIV_USE uint32_t tsiv_bases_normalise(const uint8_t *bytes, size_t bytes_size, size_t offset, size_t len, size_t *at,
+                                       size_t *size, size_t *part_offset, size_t *part_len);
+TSIV_USE uint32_t tsiv_flags_normalise(const uint8_t *bytes, size_t bytes_size, size_t offset, size_t len, size_t *at,
+                                       size_t *size, size_t *part_offset, size_t *part_len);
+
+/* The word of a view. BAD_WORD for more than 32 bases or 64 flags; in two halves, for more than 64 bases or 128 flags. */
+TSIV_USE uint32_t tsiv_bases_as_u64(const uint8_t *bytes, size_t bytes_size, size_t offset, size_t len, uint64_t *word);
+TSIV_USE uint32_t tsiv_flags_as_u64(const uint8_t *bytes, size_t bytes_size, size_t offset, size_t len, uint64_t *word);
+TSIV_USE uint32_t tsiv_bases_as_u128(const uint8_t *bytes, size_t bytes_size, size_t offset, size_t len, uint64_t *low,
+                                     uint64_t *high);
+TSIV_USE uint32_t tsiv_flags_as_u128(const uint8_t *bytes, size_t bytes_size, size_t offset, size_t len, uint64_t *low,
+                                     uint64_t *high);
+
+/* The word of the reverse complement of a view, flags reversed only. BAD_WORD also for an empty view. */
+TSIV_USE uint32_t tsiv_bases_revcomp_as_u64(const uint8_t *bytes, size_t bytes_size, size_t offset, size_t len,
+                                            uint64_t *word);
+TSIV_USE uint32_t tsiv_flags_revcomp_as_u64(const uint8_t *bytes, size_t bytes_size, size_t offset, size_t len,
+                                            uint64_t *word);
+TSIV_USE uint32_t tsiv_bases_revcomp_as_u128(const uint8_t *bytes, size_t bytes_size, size_t offset, size_t len,
+                                             uint64_t *low, uint64_t *high);
+TSIV_USE uint32_t tsiv_flags_revcomp_as_u128(const uint8_t *bytes, size_t bytes_size, size_t offset, size_t len,
+                                             uint64_t *low, uint64_t *high);
+
+/* Writes the view's len capital letters to out[0 .. len]. NO_ROOM for fewer bytes than len. */
+TSIV_USE uint32_t tsiv_bases_unpack(const uint8_t *bytes, size_t bytes_size, size_t offset, size_t len, uint8_t *out,
+                                    size_t out_size);
+
+/*
+ * Writes the reverse complement, flags reversed only, to the front of out: its bytes, unused bits 0, then 48 zeros, so that it
+ * is a view at offset 0 and a store. NO_ROOM for fewer bytes than TSIV_.._ROOM(len); later bytes stay.
+ */
+TSIV_USE uint32_t tsiv_bases_to_revcomp(const uint8_t *bytes, size_t bytes_size, size_t offset, size_t len,
+                                        uint8_t *out, size_t out_size);
+TSIV_USE uint32_t tsiv_flags_to_revcomp(const uint8_t *bytes, size_t bytes_size, size_t offset, size_t len,
+                                        uint8_t *out, size_t out_size);
+
+/* ---- Two views, a and b: every call gives TOO_LONG, then BAD_VIEW, of either. Both may lie in the same bytes. */
+
+/* *order: -1, 0 or 1. The first differing character decides, by code, so A < C < T < G; else the shorter is first. *common: how many
+ * leading characters are equal. */
+TSIV_USE uint32_t tsiv_bases_cmp_lcp(const uint8_t *a, size_t a_size, size_t a_offset, size_t a_len, const uint8_t *b,
+                                     size_t b_size, size_t b_offset, size_t b_len, int32_t *order, size_t *common);
+TSIV_USE uint32_t tsiv_flags_cmp_lcp(const uint8_t *a, size_t a_size, size_t a_offset, size_t a_len, const uint8_t *b,
+                                     size_t b_size, size_t b_offset, size_t b_len, int32_t *order, size_t *common);
+TSIV_USE uint32_t tsiv_bases_cmp(const uint8_t *a, size_t a_size, size_t a_offset, size_t a_len, const uint8_t *b,
+                                 size_t b_size, size_t b_offset, size_t b_len, int32_t *order);
+TSIV_USE uint32_t tsiv_flags_cmp(const uint8_t *a, size_t a_size, size_t a_offset, size_t a_len, const uint8_t *b,
+                                 size_t b_size, size_t b_offset, size_t b_len, int32_t *order);
+
+/* *equal: whether they have the same characters. */
+TSIV_USE uint32_t tsiv_bases_eq(const uint8_t *a, size_t a_size, size_t a_offset, size_t a_len, const uint8_t *b,
+                                size_t b_size, size_t b_offset, size_t b_len, bool *equal);
+TSIV_USE uint32_t tsiv_flags_eq(const uint8_t *a, size_t a_size, size_t a_offset, size_t a_len, const uint8_t *b,
+                                size_t b_size, size_t b_offset, size_t b_len, bool *equal);
+
+/* *there: whether the pattern stands in the text; *place: the least place where it does, 0 where it does not. */
+TSIV_USE uint32_t tsiv_bases_find(const uint8_t *pattern, size_t pattern_size, size_t pattern_offset,
+                                  size_t pattern_len, const uint8_t *text, size_t text_size, size_t text_offset,
+                                  size_t text_len, bool *there, size_t *place);
+TSIV_USE uint32_t tsiv_flags_find(const uint8_t *pattern, size_t pattern_size, size_t pattern_offset,
+                                  size_t pattern_len, const uint8_t *text, size_t text_size, size_t text_offset,
+                                  size_t text_len, bool *there, size_t *place);
+
+/* *second: whether b comes first, not at a tie. The part, as tsiv_.._normalise gives it, lies in b's bytes if so, else in a's. */
+TSIV_USE uint32_t tsiv_bases_least(const uint8_t *a, size_t a_size, size_t a_offset, size_t a_len, const uint8_t *b,
+                                   size_t b_size, size_t b_offset, size_t b_len, bool *second, size_t *at, size_t *size,
+                                   size_t *part_offset, size_t *part_len);
+TSIV_USE uint32_t tsiv_flags_least(const uint8_t *a, size_t a_size, size_t a_offset, size_t a_len, const uint8_t *b,
+                                   size_t b_size, size_t b_offset, size_t b_len, bool *second, size_t *at, size_t *size,
+                                   size_t *part_offset, size_t *part_len);
+
+/*
+ * ---- Stores: a buffer, and its length in *len, which a call that is done brings up to date. Every call gives TOO_LONG, then (but for
+ * clear) BAD_STORE, before what it names. A store's characters are a view at offset 0.
+ */
+
+/* Writes 48 zeros; *len becomes 0, refused or not, and may hold anything before. NO_ROOM for a buffer under 48 bytes. */
+TSIV_USE uint32_t tsiv_bases_clear(uint8_t *buffer, size_t buffer_size, size_t *len);
+TSIV_USE uint32_t tsiv_flags_clear(uint8_t *buffer, size_t buffer_size, size_t *len);
+
+/* Puts the letters' codes, or flags, at the end: *start, *end. No letters write nothing. NO_ROOM for a buffer under TSIV_.._ROOM(*end). */
+TSIV_USE uint32_t tsiv_bases_push_ascii(uint8_t *buffer, size_t buffer_size, size_t *len, const uint8_t *letters,
+                                        size_t letters_size, size_t *start, size_t *end);
+TSIV_USE uint32_t tsiv_flags_push_ascii(uint8_t *buffer, size_t buffer_size, size_t *len, const uint8_t *letters,
+                                        size_t letters_size, size_t *start, size_t *end);
+
+/*
+ * Puts a view behind the store: *start is the next multiple of C8 at or above the length, plus offset mod C8; *end is count later. The
+ * gap is filled with A, or with set flags. TOO_LONG also for the view's bytes; BAD_VIEW; NO_ROOM for a buffer under TSIV_.._ROOM(*end).
+ */
+TSIV_USE uint32_t tsiv_bases_push_seq(uint8_t *buffer, size_t buffer_size, size_t *len, const uint8_t *bytes,
+                                      size_t bytes_size, size_t offset, size_t count, size_t *start, size_t *end);
+TSIV_USE uint32_t tsiv_flags_push_seq(uint8_t *buffer, size_t buffer_size, size_t *len, const uint8_t *bytes,
+                                      size_t bytes_size, size_t offset, size_t count, size_t *start, size_t *end);
+
+/* Puts the letters' codes, or flags, over the characters from start on; every other bit stays. BAD_RANGE where they end beyond *len. */
+TSIV_USE uint32_t tsiv_bases_overwrite(uint8_t *buffer, size_t buffer_size, size_t *len, size_t start,
+                                       const uint8_t *letters, size_t letters_size);
+TSIV_USE uint32_t tsiv_flags_overwrite(uint8_t *buffer, size_t buffer_size, size_t *len, size_t start,
+                                       const uint8_t *letters, size_t letters_size);
+
+/* Leaves the first m characters, with zeros behind. BAD_RANGE for m above *len. */
+TSIV_USE uint32_t tsiv_bases_cut(uint8_t *buffer, size_t buffer_size, size_t *len, size_t m);
+TSIV_USE uint32_t tsiv_flags_cut(uint8_t *buffer, size_t buffer_size, size_t *len, size_t m);
+
+/*
+ * ---- Lane streams: eight lanes side by side over a view. With s = len - context + 1 (0 where len < context), a lane has n characters,
+ * the least multiple of factor * C8 at or above s / 8; padding = 8 n - s; there are n + context - 1 steps, none where len < context.
+ * Step j gives lane l the character at l n + j, 0 from the view's end on; a delay d gives the one at l n + j - d, 0 where j < d.
+ * BAD_STREAM for a context outside 1 to 2^31, a factor other than 1 and 2, a delay above 2^31, a first delay above the second.
+ */
+
+/* *lane: n; *padding; *steps. BAD_STREAM. */
+TSIV_USE uint32_t tsiv_bases_shape(size_t len, size_t context, size_t factor, size_t *lane, size_t *padding,
+                                   size_t *steps);
+TSIV_USE uint32_t tsiv_flags_shape(size_t len, size_t context, size_t factor, size_t *lane, size_t *padding,
+                                   size_t *steps);
+
+/*
+ * Writes step j, lane l to entry 8 j + l of out, for all steps, and of a buffer more for each delay; later entries stay. *steps: the
+ * steps written; *padding. TOO_LONG, BAD_VIEW, BAD_STREAM; NO_ROOM where any buffer is under TSIV_LANES_ROOM(*steps).
+ */
+TSIV_USE uint32_t tsiv_bases_fill(const uint8_t *bytes, size_t bytes_size, size_t offset, size_t len, size_t context,
+                                  size_t factor, uint32_t *out, size_t out_size, size_t *steps, size_t *padding);
+TSIV_USE uint32_t tsiv_flags_fill(const uint8_t *bytes, size_t bytes_size, size_t offset, size_t len, size_t context,
+                                  size_t factor, uint32_t *out, size_t out_size, size_t *steps, size_t *padding);
+TSIV_USE uint32_t tsiv_bases_fill_delayed(const uint8_t *bytes, size_t bytes_size, size_t offset, size_t len,
+                                          size_t context, size_t factor, size_t delay, uint32_t *out, size_t out_size,
+                                          uint32_t *delayed, size_t delayed_size, size_t *steps, size_t *padding);
+TSIV_USE uint32_t tsiv_flags_fill_delayed(const uint8_t *bytes, size_t bytes_size, size_t offset, size_t len,
+                                          size_t context, size_t factor, size_t delay, uint32_t *out, size_t out_size,
+                                          uint32_t *delayed, size_t delayed_size, size_t *steps, size_t *padding);
+TSIV_USE uint32_t tsiv_bases_fill_delayed_2(const uint8_t *bytes, size_t bytes_size, size_t offset, size_t len,
+                                            size_t context, size_t factor, size_t first, size_t second, uint32_t *out,
+                                            size_t out_size, uint32_t *out1, size_t out1_size, uint32_t *out2,
+                                            size_t out2_size, size_t *steps, size_t *padding);
+TSIV_USE uint32_t tsiv_flags_fill_delayed_2(const uint8_t *bytes, size_t bytes_size, size_t offset, size_t len,
+                                            size_t context, size_t factor, size_t first, size_t second, uint32_t *out,
+                                            size_t out_size, uint32_t *out1, size_t out1_size, uint32_t *out2,
+                                            size_t out2_size, size_t *steps, size_t *padding);
+
+/* The eight lanes of step j, and of each delay. TOO_LONG, BAD_VIEW; BAD_STREAM also for j at or past the steps. */
+TSIV_USE uint32_t tsiv_bases_step(const uint8_t *bytes, size_t bytes_size, size_t offset, size_t len, size_t context,
+                                  size_t factor, size_t j, uint32_t lanes[8]);
+TSIV_USE uint32_t tsiv_flags_step(const uint8_t *bytes, size_t bytes_size, size_t offset, size_t len, size_t context,
+                                  size_t factor, size_t j, uint32_t lanes[8]);
+TSIV_USE uint32_t tsiv_bases_step_delayed(const uint8_t *bytes, size_t bytes_size, size_t offset, size_t len,
+                                          size_t context, size_t factor, size_t delay, size_t j, uint32_t lanes[8],
+                                          uint32_t lanes1[8]);
+TSIV_USE uint32_t tsiv_flags_step_delayed(const uint8_t *bytes, size_t bytes_size, size_t offset, size_t len,
+                                          size_t context, size_t factor, size_t delay, size_t j, uint32_t lanes[8],
+                                          uint32_t lanes1[8]);
+TSIV_USE uint32_t tsiv_bases_step_delayed_2(const uint8_t *bytes, size_t bytes_size, size_t offset, size_t len,
+                                            size_t context, size_t factor, size_t first, size_t second, size_t j,
+                                            uint32_t lanes[8], uint32_t lanes1[8], uint32_t lanes2[8]);
+TSIV_USE uint32_t tsiv_flags_step_delayed_2(const uint8_t *bytes, size_t bytes_size, size_t offset, size_t len,
+                                            size_t context, size_t factor, size_t first, size_t second, size_t j,
+                                            uint32_t lanes[8], uint32_t lanes1[8], uint32_t lanes2[8]);
+
+/*
+ * Windows of k flags, factor 1: step j gives lane l 0xFFFFFFFF where a flag is set at a position of the view from
+ * l n + max(0, j - k + 1) to l n + j, else 0. From step skip on they are written to entry 8 (j - skip) + l; *steps: how many steps.
+ * TOO_LONG, BAD_VIEW; BAD_STREAM also for k outside 1 to 96 or skip above the steps; NO_ROOM.
+ */
+TSIV_USE uint32_t tsiv_flags_fill_windows(const uint8_t *bytes, size_t bytes_size, size_t offset, size_t len,
+                                          size_t context, size_t k, size_t skip, uint32_t *out, size_t out_size,
+                                          size_t *steps, size_t *padding);
+
+/*
+ * The windows of one step: the state is eight lane counts and the step, all 0 at the start; the next state comes through next_counts
+ * and *next_step. TOO_LONG, BAD_VIEW; BAD_STREAM also for a step at or past the steps, a count above k - 1, or a count that is below the
+ * flag that leaves the window.
+ */
+TSIV_USE uint32_t tsiv_flags_step_windows(const uint8_t *bytes, size_t bytes_size, size_t offset, size_t len,
+                                          size_t context, size_t k, const uint32_t counts[8], size_t step,
+                                          uint32_t answers[8], uint32_t next_counts[8], size_t *next_step);
+
+/*
+ * ---- The stored form, edition 1: byte 1; the length n in groups of seven bits, low group first, the top bit set on all but the last
+ * byte, shortest form; the base bytes; the flag bytes; nothing more; unused bits 0.
+ */
+
+/*
+ * Writes the form of a view of bases and a view of flags to the front of out; *written: its bytes, TSIV_FORM_ROOM(base_len). TOO_LONG,
+ * BAD_VIEW; BAD_RANGE for unequal lengths, or more than 2^29; NO_ROOM.
+ */
+TSIV_USE uint32_t tsiv_form_write(const uint8_t *bases, size_t bases_size, size_t base_offset, size_t base_len,
+                                  const uint8_t *flags, size_t flags_size, size_t flag_offset, size_t flag_len,
+                                  uint8_t *out, size_t out_size, size_t *written);
+
+/* Fills two buffers as stores of *len characters. TOO_LONG for the form or a buffer; BAD_FORM; NO_ROOM. */
+TSIV_USE uint32_t tsiv_form_read(const uint8_t *form, size_t form_size, uint8_t *bases, size_t bases_size,
+                                 uint8_t *flags, size_t flags_size, size_t *len);
+
+#ifdef __cplusplus
+}
+#endif
+
+#endif

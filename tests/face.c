@@ -1,0 +1,233 @@
+/* What embedders ask first of the C face: NULL with size 0, room, version, names, zeros beside a refusal, the rules' own examples. */
+#include <stdio.h>
+#include <stdlib.h>
+#include <string.h>
+#include <tsivelaro.h>
+
+static unsigned passed, failed;
+
+static void hold(int holds, const char *what, int line)
+{
+    if (holds) {
+        passed++;
+    } else {
+        failed++;
+        printf("face.c:%d: %s\n", line, what);
+    }
+}
+#define HOLD(x) hold((x) != 0, #x, __LINE__)
+
+static void versions_and_names(void)
+{
+    HOLD(tsiv_version() == TSIV_VERSION);
+    HOLD(TSIV_VERSION == 0x00040000);
+    static const char *names[] = {"DONE",     "TOO_LONG",   "BAD_STORE", "BAD_VIEW",   "BAD_RANGE",
+                                  "BAD_WORD", "BAD_LETTER", "BAD_FORM",  "BAD_STREAM", "NO_ROOM"};
+    for (uint32_t i = 0; i < 10; i++)
+        HOLD(strcmp(tsiv_refusal_name(i), names[i]) == 0);
+    HOLD(strcmp(tsiv_refusal_name(10), "?") == 0);
+}
+
+static void rooms(void)
+{
+    static const size_t edges[] = {0,       1,       2,         3,         4,         5,        7,
+                                   8,       9,       127,       128,       129,       16383,    16384,
+                                   2097151, 2097152, 268435455, 268435456, 536870911, 536870912};
+    int right = 1;
+    for (size_t i = 0; i < sizeof edges / sizeof *edges; i++) {
+        size_t n = edges[i];
+        right &= tsiv_bases_room(n) == TSIV_BASES_ROOM(n) && tsiv_flags_room(n) == TSIV_FLAGS_ROOM(n);
+        right &= tsiv_form_room(n) == TSIV_FORM_ROOM(n) && tsiv_lanes_room(n) == TSIV_LANES_ROOM(n);
+        right &= tsiv_bases_room(n) == (n + 3) / 4 + 48 && tsiv_flags_room(n) == (n + 7) / 8 + 48;
+    }
+    HOLD(right);
+    HOLD(tsiv_bases_room(SIZE_MAX) == SIZE_MAX / 4 + 1 + 48);
+    HOLD(tsiv_lanes_room(SIZE_MAX) == SIZE_MAX);
+}
+
+/* The examples of the rules, each side of the line. */
+static void worked(void)
+{
+    uint64_t word, low, high;
+    uint8_t code;
+    bool flag;
+    size_t a, b, c, d, len;
+    int32_t order;
+    uint8_t bytes[64] = {0};
+    HOLD(tsiv_pack_kmer_lossy((const uint8_t *)"ACTG", 4, &word) == 0 && word == 228);
+    HOLD(tsiv_pack_kmer_lossy((const uint8_t *)"ACGT", 4, &word) == 0 && word == 180);
+    HOLD(tsiv_revcomp_u64(4, 2, &word) == 0 && word == 11);
+    word = 7;
+    HOLD(tsiv_revcomp_u64(4, 0, &word) == TSIV_BAD_WORD && word == 0);
+    word = 7;
+    HOLD(tsiv_revcomp_u64(4, 33, &word) == TSIV_BAD_WORD && word == 0);
+    HOLD(tsiv_rev_u64(1, 3, &word) == 0 && word == 4);
+    low = high = 7;
+    HOLD(tsiv_rev_u128(1, 0, 129, &low, &high) == TSIV_BAD_WORD && low == 0 && high == 0);
+    HOLD(tsiv_rev_u128(1, 0, 128, &low, &high) == 0 && low == 0 && high == (uint64_t)1 << 63);
+    HOLD(tsiv_pack_char_lossy('N') == 3 && tsiv_char_is_ambiguous('U') == 1 && tsiv_char_is_ambiguous('t') == 0);
+    code = 7;
+    HOLD(tsiv_pack_char('N', &code) == TSIV_BAD_LETTER && code == 0);
+    HOLD(tsiv_complement_char('A', &code) == 0 && code == 'T');
+    HOLD(tsiv_bases_view(bytes, 49, 1, 3, &a, &b, &c, &d) == 0 && a == 0 && b == 49 && c == 1 && d == 3);
+    a = b = c = d = 7;
+    HOLD(tsiv_bases_view(bytes, 49, 2, 3, &a, &b, &c, &d) == TSIV_BAD_VIEW && a + b + c + d == 0);
+    HOLD(tsiv_bases_normalise(bytes, 60, 9, 3, &a, &b, &c, &d) == 0 && a == 2 && b == 49 && c == 1 && d == 3);
+    /* AC against ACT: bytes 4 and 36 */
+    uint8_t ac[49] = {4}, act[49] = {36};
+    HOLD(tsiv_bases_cmp_lcp(ac, 49, 0, 2, act, 49, 0, 3, &order, &a) == 0 && order == -1 && a == 2);
+    HOLD(tsiv_bases_least(act, 49, 0, 3, ac, 49, 0, 2, &flag, &a, &b, &c, &d) == 0 && flag && d == 2);
+    HOLD(tsiv_bases_find(ac, 49, 1, 1, act, 49, 0, 3, &flag, &a) == 0 && flag && a == 1);
+    /* length 3, a view at in-byte offset 1 of length 2: 5 to 7 at width 2, 9 to 11 at width 1 */
+    len = 3;
+    HOLD(tsiv_bases_push_seq(bytes, 64, &len, ac, 49, 1, 2, &a, &b) == 0 && a == 5 && b == 7 && len == 7);
+    memset(bytes, 0, sizeof bytes);
+    len = 3;
+    HOLD(tsiv_flags_push_seq(bytes, 64, &len, ac, 49, 1, 2, &a, &b) == 0 && a == 9 && b == 11 && len == 11);
+    len = 3;
+    HOLD(tsiv_bases_cut(bytes, 64, &len, 4) == TSIV_BAD_RANGE && len == 3);
+    len = 99;
+    HOLD(tsiv_bases_clear(bytes, 47, &len) == TSIV_NO_ROOM && len == 0);
+    HOLD(tsiv_bases_shape(10, 3, 1, &a, &b, &c) == 0 && a == 4 && b == 24 && c == 6);
+    a = b = c = 7;
+    HOLD(tsiv_bases_shape(10, 0, 1, &a, &b, &c) == TSIV_BAD_STREAM && a + b + c == 0);
+}
+
+/* A buffer of size 0 may be NULL, in every call that takes one. */
+static void nulls(void)
+{
+    uint64_t word, low, high;
+    uint8_t code, one[1] = {5}, bytes[64] = {0};
+    bool flag;
+    size_t a, b, c, d, len;
+    int32_t order;
+    uint32_t lanes[8], lanes1[8], lanes2[8], counts[8] = {0}, next[8];
+    HOLD(tsiv_pack_kmer_lossy(NULL, 0, &word) == 0 && word == 0);
+    HOLD(tsiv_pack_kmer_u128_lossy(NULL, 0, &low, &high) == 0 && low == 0 && high == 0);
+    HOLD(tsiv_unpack_kmer(1, 0, NULL, 0) == 0 && tsiv_unpack_kmer(1, 1, NULL, 0) == TSIV_NO_ROOM);
+    HOLD(tsiv_unpack_kmer_u128(1, 1, 0, NULL, 0) == 0 && tsiv_unpack_kmer_u128(1, 1, 1, NULL, 0) == TSIV_NO_ROOM);
+#define ONE_VIEW(W)                                                                                                    \
+    HOLD(tsiv_##W##_get(NULL, 0, 0, 0, 0, &code) == TSIV_BAD_VIEW);                                                    \
+    HOLD(tsiv_##W##_get_sliced(NULL, 0, 0, 0, 0, 0, 0, &code) == TSIV_BAD_VIEW);                                       \
+    HOLD(tsiv_##W##_view(NULL, 0, 0, 0, &a, &b, &c, &d) == TSIV_BAD_VIEW);                                             \
+    HOLD(tsiv_##W##_slice(NULL, 0, 0, 0, 0, 0, &a, &b, &c, &d) == TSIV_BAD_VIEW);                                      \
+    HOLD(tsiv_##W##_normalise(NULL, 0, 0, 0, &a, &b, &c, &d) == TSIV_BAD_VIEW);                                        \
+    HOLD(tsiv_##W##_as_u64(NULL, 0, 0, 0, &word) == TSIV_BAD_VIEW);                                                    \
+    HOLD(tsiv_##W##_as_u128(NULL, 0, 0, 0, &low, &high) == TSIV_BAD_VIEW);                                             \
+    HOLD(tsiv_##W##_revcomp_as_u64(NULL, 0, 0, 0, &word) == TSIV_BAD_VIEW);                                            \
+    HOLD(tsiv_##W##_revcomp_as_u128(NULL, 0, 0, 0, &low, &high) == TSIV_BAD_VIEW);                                     \
+    HOLD(tsiv_##W##_to_revcomp(bytes, 64, 0, 0, NULL, 0) == TSIV_NO_ROOM);                                             \
+    HOLD(tsiv_##W##_to_revcomp(NULL, 0, 0, 0, NULL, 0) == TSIV_BAD_VIEW);                                              \
+    HOLD(tsiv_##W##_cmp_lcp(NULL, 0, 0, 0, NULL, 0, 0, 0, &order, &a) == TSIV_BAD_VIEW);                               \
+    HOLD(tsiv_##W##_cmp(bytes, 64, 0, 0, NULL, 0, 0, 0, &order) == TSIV_BAD_VIEW);                                     \
+    HOLD(tsiv_##W##_eq(NULL, 0, 0, 0, bytes, 64, 0, 0, &flag) == TSIV_BAD_VIEW);                                       \
+    HOLD(tsiv_##W##_find(NULL, 0, 0, 0, NULL, 0, 0, 0, &flag, &a) == TSIV_BAD_VIEW);                                   \
+    HOLD(tsiv_##W##_least(NULL, 0, 0, 0, NULL, 0, 0, 0, &flag, &a, &b, &c, &d) == TSIV_BAD_VIEW);                      \
+    HOLD(tsiv_##W##_clear(NULL, 0, &len) == TSIV_NO_ROOM);                                                             \
+    len = 0;                                                                                                           \
+    HOLD(tsiv_##W##_push_ascii(NULL, 0, &len, NULL, 0, &a, &b) == TSIV_BAD_STORE);                                     \
+    HOLD(tsiv_##W##_push_ascii(bytes, 64, &len, NULL, 0, &a, &b) == 0 && a == 0 && b == 0);                            \
+    HOLD(tsiv_##W##_push_seq(bytes, 64, &len, NULL, 0, 0, 0, &a, &b) == TSIV_BAD_VIEW);                                \
+    HOLD(tsiv_##W##_overwrite(bytes, 64, &len, 0, NULL, 0) == 0);                                                      \
+    HOLD(tsiv_##W##_cut(NULL, 0, &len, 0) == TSIV_BAD_STORE);                                                          \
+    HOLD(tsiv_##W##_fill(bytes, 64, 0, 0, 1, 1, NULL, 0, &a, &b) == 0 && a == 0);                                      \
+    HOLD(tsiv_##W##_fill(NULL, 0, 0, 0, 1, 1, NULL, 0, &a, &b) == TSIV_BAD_VIEW);                                      \
+    HOLD(tsiv_##W##_fill_delayed(bytes, 64, 0, 0, 1, 1, 0, NULL, 0, NULL, 0, &a, &b) == 0);                            \
+    HOLD(tsiv_##W##_fill_delayed_2(bytes, 64, 0, 0, 1, 1, 0, 0, NULL, 0, NULL, 0, NULL, 0, &a, &b) == 0);              \
+    HOLD(tsiv_##W##_step(NULL, 0, 0, 0, 1, 1, 0, lanes) == TSIV_BAD_VIEW && lanes[0] == 0);                            \
+    HOLD(tsiv_##W##_step_delayed(NULL, 0, 0, 0, 1, 1, 0, 0, lanes, lanes1) == TSIV_BAD_VIEW);                          \
+    HOLD(tsiv_##W##_step_delayed_2(NULL, 0, 0, 0, 1, 1, 0, 0, 0, lanes, lanes1, lanes2) == TSIV_BAD_VIEW)
+    ONE_VIEW(bases);
+    ONE_VIEW(flags);
+    HOLD(tsiv_bases_unpack(bytes, 64, 0, 0, NULL, 0) == 0 && tsiv_bases_unpack(NULL, 0, 0, 0, one, 1) == TSIV_BAD_VIEW);
+    HOLD(tsiv_flags_fill_windows(bytes, 64, 0, 0, 1, 1, 0, NULL, 0, &a, &b) == 0 && a == 0);
+    HOLD(tsiv_flags_step_windows(NULL, 0, 0, 0, 1, 1, counts, 0, lanes, next, &a) == TSIV_BAD_VIEW);
+    HOLD(tsiv_form_write(bytes, 64, 0, 0, bytes, 64, 0, 0, NULL, 0, &a) == TSIV_NO_ROOM);
+    HOLD(tsiv_form_read(NULL, 0, NULL, 0, NULL, 0, &len) == TSIV_BAD_FORM && len == 0);
+    HOLD(one[0] == 5);
+}
+
+/* 2^28 bytes are taken, and one more is refused, in every call that has the limit. */
+static void too_long(void)
+{
+    const size_t most = (size_t)1 << 28, more = most + 1;
+    uint8_t *big = (uint8_t *)calloc(more, 1), out[64] = {0}, code;
+    uint64_t word, low, high;
+    bool flag;
+    size_t a, b, c, d, len = 0;
+    int32_t order;
+    uint32_t lanes[8], lanes1[8], lanes2[8], counts[8] = {0}, next[8];
+    HOLD(big != NULL);
+    if (big == NULL)
+        return;
+#define LARGE(W)                                                                                                       \
+    HOLD(tsiv_##W##_get(big, most, 0, 1, 0, &code) == 0 && code == 0);                                                 \
+    HOLD(tsiv_##W##_get(big, more, 0, 1, 0, &code) == TSIV_TOO_LONG);                                                  \
+    HOLD(tsiv_##W##_get_sliced(big, more, 0, 1, 0, 1, 0, &code) == TSIV_TOO_LONG);                                     \
+    HOLD(tsiv_##W##_view(big, more, 0, 1, &a, &b, &c, &d) == TSIV_TOO_LONG && b == 0);                                 \
+    HOLD(tsiv_##W##_slice(big, more, 0, 1, 0, 1, &a, &b, &c, &d) == TSIV_TOO_LONG);                                    \
+    HOLD(tsiv_##W##_normalise(big, more, 0, 1, &a, &b, &c, &d) == TSIV_TOO_LONG);                                      \
+    HOLD(tsiv_##W##_as_u64(big, more, 0, 1, &word) == TSIV_TOO_LONG);                                                  \
+    HOLD(tsiv_##W##_as_u128(big, more, 0, 1, &low, &high) == TSIV_TOO_LONG);                                           \
+    HOLD(tsiv_##W##_revcomp_as_u64(big, more, 0, 1, &word) == TSIV_TOO_LONG);                                          \
+    HOLD(tsiv_##W##_revcomp_as_u128(big, more, 0, 1, &low, &high) == TSIV_TOO_LONG);                                   \
+    HOLD(tsiv_##W##_to_revcomp(big, more, 0, 1, out, 64) == TSIV_TOO_LONG);                                            \
+    HOLD(tsiv_##W##_cmp_lcp(out, 64, 0, 1, big, more, 0, 1, &order, &a) == TSIV_TOO_LONG);                             \
+    HOLD(tsiv_##W##_cmp(big, more, 0, 1, out, 64, 0, 1, &order) == TSIV_TOO_LONG);                                     \
+    HOLD(tsiv_##W##_eq(out, 64, 0, 1, big, more, 0, 1, &flag) == TSIV_TOO_LONG);                                       \
+    HOLD(tsiv_##W##_find(out, 64, 0, 1, big, more, 0, 1, &flag, &a) == TSIV_TOO_LONG);                                 \
+    HOLD(tsiv_##W##_least(out, 64, 0, 1, big, more, 0, 1, &flag, &a, &b, &c, &d) == TSIV_TOO_LONG);                    \
+    HOLD(tsiv_##W##_clear(big, more, &len) == TSIV_TOO_LONG && len == 0);                                              \
+    HOLD(tsiv_##W##_push_ascii(big, more, &len, out, 1, &a, &b) == TSIV_TOO_LONG);                                     \
+    HOLD(tsiv_##W##_push_seq(big, more, &len, out, 64, 0, 1, &a, &b) == TSIV_TOO_LONG);                                \
+    HOLD(tsiv_##W##_push_seq(out, 64, &len, big, more, 0, 1, &a, &b) == TSIV_TOO_LONG);                                \
+    HOLD(tsiv_##W##_overwrite(big, more, &len, 0, out, 0) == TSIV_TOO_LONG);                                           \
+    HOLD(tsiv_##W##_cut(big, more, &len, 0) == TSIV_TOO_LONG);                                                         \
+    HOLD(tsiv_##W##_fill(big, more, 0, 1, 1, 1, NULL, 0, &a, &b) == TSIV_TOO_LONG);                                    \
+    HOLD(tsiv_##W##_fill_delayed(big, more, 0, 1, 1, 1, 0, NULL, 0, NULL, 0, &a, &b) == TSIV_TOO_LONG);                \
+    HOLD(tsiv_##W##_fill_delayed_2(big, more, 0, 1, 1, 1, 0, 0, NULL, 0, NULL, 0, NULL, 0, &a, &b) == TSIV_TOO_LONG);  \
+    HOLD(tsiv_##W##_step(big, more, 0, 1, 1, 1, 0, lanes) == TSIV_TOO_LONG);                                           \
+    HOLD(tsiv_##W##_step_delayed(big, more, 0, 1, 1, 1, 0, 0, lanes, lanes1) == TSIV_TOO_LONG);                        \
+    HOLD(tsiv_##W##_step_delayed_2(big, more, 0, 1, 1, 1, 0, 0, 0, lanes, lanes1, lanes2) == TSIV_TOO_LONG)
+    LARGE(bases);
+    LARGE(flags);
+    HOLD(tsiv_bases_unpack(big, more, 0, 1, out, 64) == TSIV_TOO_LONG);
+    HOLD(tsiv_flags_fill_windows(big, more, 0, 1, 1, 1, 0, NULL, 0, &a, &b) == TSIV_TOO_LONG);
+    HOLD(tsiv_flags_step_windows(big, more, 0, 1, 1, 1, counts, 0, lanes, next, &a) == TSIV_TOO_LONG);
+    HOLD(tsiv_form_write(big, more, 0, 1, out, 64, 0, 1, out + 50, 14, &a) == TSIV_TOO_LONG);
+    HOLD(tsiv_form_read(big, more, out, 64, NULL, 0, &len) == TSIV_TOO_LONG);
+    HOLD(tsiv_form_read(out, 64, big, more, NULL, 0, &len) == TSIV_TOO_LONG);
+    HOLD(tsiv_form_read(out, 64, NULL, 0, big, more, &len) == TSIV_TOO_LONG && len == 0);
+    free(big);
+}
+
+/* A stream's buffers that lack one entry are refused, and not one entry is written. */
+static void no_room(void)
+{
+    uint8_t bytes[64] = {0x1B, 0x1B};
+    uint32_t x[48], y[48], z[48];
+    size_t steps = 7, padding = 7;
+    memset(x, 0x5A, sizeof x), memset(y, 0x5A, sizeof y), memset(z, 0x5A, sizeof z);
+    /* length 8, context 1: lanes of 4 bases or 8 flags, so 32 or 64 entries */
+    HOLD(tsiv_bases_fill(bytes, 64, 0, 8, 1, 1, x, 31, &steps, &padding) == TSIV_NO_ROOM && steps + padding == 0);
+    HOLD(tsiv_bases_fill_delayed(bytes, 64, 0, 8, 1, 1, 1, x, 32, y, 31, &steps, &padding) == TSIV_NO_ROOM);
+    HOLD(tsiv_bases_fill_delayed_2(bytes, 64, 0, 8, 1, 1, 0, 1, x, 32, y, 32, z, 31, &steps, &padding) == TSIV_NO_ROOM);
+    HOLD(tsiv_flags_fill(bytes, 64, 0, 8, 1, 1, x, 47, &steps, &padding) == TSIV_NO_ROOM);
+    HOLD(tsiv_flags_fill_windows(bytes, 64, 0, 8, 1, 1, 3, x, 39, &steps, &padding) == TSIV_NO_ROOM);
+    HOLD(x[0] == 0x5A5A5A5A && x[47] == x[0] && y[0] == x[0] && z[0] == x[0]);
+    HOLD(tsiv_bases_fill(bytes, 64, 0, 8, 1, 1, x, 32, &steps, &padding) == 0 && steps == 4 && padding == 24);
+    HOLD(x[32] == 0x5A5A5A5A && x[0] == 3 && x[1] == 3 && x[8] == 2);
+    HOLD(tsiv_flags_fill_windows(bytes, 64, 0, 8, 1, 1, 3, y, 40, &steps, &padding) == 0 && steps == 5);
+}
+
+int main(void)
+{
+    versions_and_names();
+    rooms();
+    worked();
+    nulls();
+    too_long();
+    no_room();
+    printf("face: %u passed, %u failed\n", passed, failed);
+    return failed != 0;
+}
