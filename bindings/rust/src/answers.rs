@@ -1,0 +1,129 @@
+//! What the calls answer.
+
+use std::{error::Error, fmt};
+
+/// A count of characters, or the place of one.
+#[derive(Clone, Copy, Debug, Default, PartialEq, Eq, PartialOrd, Ord, Hash)]
+pub struct Chars(pub usize);
+
+/// Why a call refuses: its number, and its name in the rules.
+#[derive(Clone, Copy, Debug, PartialEq, Eq, Hash)]
+#[repr(u32)]
+pub enum Refusal {
+    /// A view's bytes, a store's buffer or a stored form to be read exceeds 2^28 bytes.
+    TooLong = 1,
+    /// The bytes of a store's length and 48 more exceed its buffer.
+    BadStore = 2,
+    /// A view's offset, length and 48 bytes behind exceed its bytes.
+    BadView = 3,
+    /// An index, an end or a start outside its range; tracks of unequal lengths.
+    BadRange = 4,
+    /// A word's length outside its range.
+    BadWord = 5,
+    /// A byte that is no such letter, or a code above 3.
+    BadLetter = 6,
+    /// Bytes that are no stored form.
+    BadForm = 7,
+    /// Stream numbers outside their ranges.
+    BadStream = 8,
+    /// An output buffer is shorter than the answer needs.
+    NoRoom = 9,
+}
+
+impl Refusal {
+    const ALL: [Refusal; 9] = [
+        Refusal::TooLong,
+        Refusal::BadStore,
+        Refusal::BadView,
+        Refusal::BadRange,
+        Refusal::BadWord,
+        Refusal::BadLetter,
+        Refusal::BadForm,
+        Refusal::BadStream,
+        Refusal::NoRoom,
+    ];
+
+    /// Its number, 1 to 9.
+    pub fn number(self) -> u32 {
+        self as u32
+    }
+
+    /// A call's number: nothing where it is done.
+    pub(crate) fn check(number: u32) -> Result<(), Refusal> {
+        match number {
+            0 => Ok(()),
+            n => Err(Refusal::ALL[n as usize - 1]),
+        }
+    }
+}
+
+impl fmt::Display for Refusal {
+    fn fmt(&self, f: &mut fmt::Formatter<'_>) -> fmt::Result {
+        f.write_str(match self {
+            Refusal::TooLong => "TOO_LONG",
+            Refusal::BadStore => "BAD_STORE",
+            Refusal::BadView => "BAD_VIEW",
+            Refusal::BadRange => "BAD_RANGE",
+            Refusal::BadWord => "BAD_WORD",
+            Refusal::BadLetter => "BAD_LETTER",
+            Refusal::BadForm => "BAD_FORM",
+            Refusal::BadStream => "BAD_STREAM",
+            Refusal::NoRoom => "NO_ROOM",
+        })
+    }
+}
+
+impl Error for Refusal {}
+
+/// A part of lent bytes: its first byte and its count of bytes, and a view's offset and length in it.
+#[derive(Clone, Copy, Debug, Default, PartialEq, Eq)]
+pub struct Part {
+    /// The first byte.
+    pub at: usize,
+    /// How many bytes.
+    pub size: usize,
+    /// The view's offset in them.
+    pub offset: Chars,
+    /// The view's length.
+    pub len: Chars,
+}
+
+/// Where a push put its characters, and the store's length after it.
+#[derive(Clone, Copy, Debug, Default, PartialEq, Eq)]
+pub struct Pushed {
+    /// The first character.
+    pub start: Chars,
+    /// Behind the last one.
+    pub end: Chars,
+    /// The store's length.
+    pub len: Chars,
+}
+
+/// The numbers of a stream.
+#[derive(Clone, Copy, Debug, Default, PartialEq, Eq)]
+pub struct Shape {
+    /// The characters of a lane.
+    pub lane: Chars,
+    /// The positions behind the last one that counts.
+    pub padding: Chars,
+    /// The steps.
+    pub steps: usize,
+}
+
+/// What a fill wrote.
+#[derive(Clone, Copy, Debug, Default, PartialEq, Eq)]
+pub struct Filled {
+    /// The steps written, eight entries each.
+    pub steps: usize,
+    /// The positions behind the last one that counts.
+    pub padding: Chars,
+}
+
+/// The running state of flag windows: eight lane counts and the step; `Windows::default()` is the start.
+#[derive(Clone, Copy, Debug, Default, PartialEq, Eq)]
+pub struct Windows {
+    /// The set flags in each lane's window.
+    pub counts: [u32; 8],
+    /// The step.
+    pub step: usize,
+}

@@ -1,0 +1,43 @@
+//! Letters and codes, one at a time.
+
+use crate::{sys, Refusal};
+
+type Call = unsafe extern "C" fn(u8, &mut u8) -> u32;
+
+fn symbol(call: Call, byte: u8) -> Result<u8, Refusal> {
+    let mut to = 0;
+    // SAFETY: the number behind the pointer is ours.
+    Refusal::check(unsafe { call(byte, &mut to) }).map(|()| to)
+}
+
+/// The code of one of ACGTacgt.
+pub fn pack_char(byte: u8) -> Result<u8, Refusal> {
+    symbol(sys::tsiv_pack_char, byte)
+}
+
+/// The code that packing gives any byte.
+pub fn pack_char_lossy(byte: u8) -> u8 {
+    // SAFETY: it takes a number.
+    unsafe { sys::tsiv_pack_char_lossy(byte) }
+}
+
+/// 0 for one of ACGTacgt, 1 for every other byte.
+pub fn char_is_ambiguous(byte: u8) -> u8 {
+    // SAFETY: it takes a number.
+    unsafe { sys::tsiv_char_is_ambiguous(byte) }
+}
+
+/// The capital letter of a code.
+pub fn unpack_base(code: u8) -> Result<u8, Refusal> {
+    symbol(sys::tsiv_unpack_base, code)
+}
+
+/// The capital letter that pairs with a capital letter.
+pub fn complement_char(byte: u8) -> Result<u8, Refusal> {
+    symbol(sys::tsiv_complement_char, byte)
+}
+
+/// The code of the base that pairs with a base.
+pub fn complement_base(code: u8) -> Result<u8, Refusal> {
+    symbol(sys::tsiv_complement_base, code)
+}
