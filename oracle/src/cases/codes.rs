@@ -46,17 +46,21 @@ fn letters() {
 fn packing() {
     let text: [u8; 66] = std::array::from_fn(|i| ((i * 37 + 11) % 256) as u8);
     for n in 0..=66 {
-        let letters = &text[..n];
-        first(letters);
-        if n <= 34 {
-            let answer = answer(&[bad_word(n, 0, 32)], || [pack_kmer_lossy(letters)]);
-            case(&[20], &answer);
-        }
-        let answer = answer(&[bad_word(n, 0, 64)], || {
-            halves(pack_kmer_u128_lossy(letters))
-        });
-        case(&[21], &answer);
+        packed(&text[..n]);
     }
+}
+
+pub fn packed(letters: &[u8]) {
+    let n = letters.len();
+    first(letters);
+    if n <= 34 {
+        let answer = answer(&[bad_word(n, 0, 32)], || [pack_kmer_lossy(letters)]);
+        case(&[20], &answer);
+    }
+    let answer = answer(&[bad_word(n, 0, 64)], || {
+        halves(pack_kmer_u128_lossy(letters))
+    });
+    case(&[21], &answer);
 }
 
 /// Each word with the one that follows it, as low and high half.
@@ -96,11 +100,11 @@ fn unpacking() {
     }
 }
 
-fn unpacked_u64(word: u64, k: usize, room: usize) {
+pub fn unpacked_u64(word: u64, k: usize, room: usize) {
     unpacked(&asked(22, k, &[word]), &unpack_kmer(word), k, room);
 }
 
-fn unpacked_u128(low: u64, high: u64, k: usize, room: usize) {
+pub fn unpacked_u128(low: u64, high: u64, k: usize, room: usize) {
     let letters = unpack_kmer_u128(joined(low, high));
     unpacked(&asked(23, k, &[low, high]), &letters, k, room);
 }
@@ -115,25 +119,42 @@ fn unpacked(numbers: &[usize], letters: &[u8], k: usize, room: usize) {
 }
 
 fn reversing() {
-    for w in WORDS {
+    for word in WORDS {
         for len in (0..=34).chain([HUGE]) {
-            let answer = answer(&[bad_word(len, 1, 32)], || [revcomp_u64(w, len)]);
-            case(&asked(24, len, &[w]), &answer);
+            revcomp(word, len);
         }
         for len in (0..=66).chain([HUGE]) {
-            let answer = answer(&[bad_word(len, 1, 64)], || [rev_u64(w, len)]);
-            case(&asked(26, len, &[w]), &answer);
+            rev(word, len);
         }
     }
     for (low, high) in pairs() {
-        let word = joined(low, high);
         for len in (0..=66).chain([HUGE]) {
-            let answer = answer(&[bad_word(len, 1, 64)], || halves(revcomp_u128(word, len)));
-            case(&asked(25, len, &[low, high]), &answer);
+            revcomp_wide(low, high, len);
         }
         for len in (0..=130).chain([HUGE]) {
-            let answer = answer(&[bad_word(len, 1, 128)], || halves(rev_u128(word, len)));
-            case(&asked(27, len, &[low, high]), &answer);
+            rev_wide(low, high, len);
         }
     }
+}
+
+pub fn revcomp(word: u64, len: usize) {
+    let answer = answer(&[bad_word(len, 1, 32)], || [revcomp_u64(word, len)]);
+    case(&asked(24, len, &[word]), &answer);
+}
+
+pub fn rev(word: u64, len: usize) {
+    let answer = answer(&[bad_word(len, 1, 64)], || [rev_u64(word, len)]);
+    case(&asked(26, len, &[word]), &answer);
+}
+
+pub fn revcomp_wide(low: u64, high: u64, len: usize) {
+    let word = joined(low, high);
+    let answer = answer(&[bad_word(len, 1, 64)], || halves(revcomp_u128(word, len)));
+    case(&asked(25, len, &[low, high]), &answer);
+}
+
+pub fn rev_wide(low: u64, high: u64, len: usize) {
+    let word = joined(low, high);
+    let answer = answer(&[bad_word(len, 1, 128)], || halves(rev_u128(word, len)));
+    case(&asked(27, len, &[low, high]), &answer);
 }

@@ -1,30 +1,74 @@
-//! How a case is written: its numbers, ` = `, the numbers of its answer. A line that only fills a buffer has no answer.
+//! How a case is told: a line with its numbers and the numbers of its answer. A line that only fills a buffer has no answer.
+//!
+//! Lines are printed, as `numbers = answer`, unless someone listens.
+
+use std::cell::RefCell;
 
 /// The largest number that a case can give.
 pub const HUGE: usize = u32::MAX as usize;
 
-/// The most numbers on a case's line, and the most bytes of a buffer.
+/// The most numbers on a printed line, and the most bytes of a buffer.
 const MOST: usize = 500;
+
+pub enum Line<'a> {
+    /// The content of the first buffer.
+    First(&'a [u8]),
+    /// The content of the second buffer.
+    Second(&'a [u8]),
+    /// The size of the third buffer, which calls write to, and the byte that it is filled with.
+    Out(usize, u8),
+    /// The numbers of a case, and of its answer.
+    Case(&'a [usize], &'a [u64]),
+}
+
+type Listener = Box<dyn FnMut(Line)>;
+
+thread_local! {
+    static LISTENER: RefCell<Option<Listener>> = const { RefCell::new(None) };
+}
+
+/// From now on lines are told to `listener`, and not printed.
+pub fn listen(listener: impl FnMut(Line) + 'static) {
+    LISTENER.set(Some(Box::new(listener)));
+}
+
+fn tell(line: Line) {
+    LISTENER.with_borrow_mut(|listener| match listener {
+        Some(listener) => listener(line),
+        None => print(line),
+    });
+}
+
+fn print(line: Line) {
+    match line {
+        Line::First(bytes) => println!("1{}", fill(bytes)),
+        Line::Second(bytes) => println!("2{}", fill(bytes)),
+        Line::Out(size, byte) => {
+            assert!(size <= MOST, "{size}");
+            println!("3 {size} {byte}");
+        }
+        Line::Case(numbers, answer) => println!("{} = {}", spaced(numbers), spaced(answer)),
+    }
+}
 
 pub fn case(numbers: &[usize], answer: &[u64]) {
     assert!(numbers.iter().all(|&n| n <= HUGE), "{numbers:?}");
-    println!("{} = {}", spaced(numbers), spaced(answer));
+    tell(Line::Case(numbers, answer));
 }
 
 /// Fills the first buffer.
 pub fn first(bytes: &[u8]) {
-    fill("1", bytes);
+    tell(Line::First(bytes));
 }
 
 /// Fills the second buffer.
 pub fn second(bytes: &[u8]) {
-    fill("2", bytes);
+    tell(Line::Second(bytes));
 }
 
-/// Fills the third buffer, which calls write to, with one byte.
+/// Fills the third buffer with one byte.
 pub fn out(size: usize, byte: u8) -> Vec<u8> {
-    assert!(size <= MOST, "{size}");
-    println!("3 {size} {byte}");
+    tell(Line::Out(size, byte));
     vec![byte; size]
 }
 
@@ -47,10 +91,9 @@ pub fn with_bytes(answer: &[u64], bytes: &[u8]) -> Vec<u64> {
         .collect()
 }
 
-fn fill(buffer: &str, bytes: &[u8]) {
+fn fill(bytes: &[u8]) -> String {
     assert!(bytes.len() < MOST, "{}", bytes.len());
-    let bytes: String = bytes.iter().map(|byte| format!(" {byte}")).collect();
-    println!("{buffer}{bytes}");
+    bytes.iter().map(|byte| format!(" {byte}")).collect()
 }
 
 fn spaced<T: ToString>(numbers: &[T]) -> String {

@@ -8,19 +8,19 @@
 //! by which way it is asked. Outside it the original is not asked: the line is 01's refusal. What 01 adds is answered by
 //! the plain reading of 01, held to the original as far as that goes.
 
-mod lines;
+pub mod lines;
 mod original;
-mod plain;
-mod refusals;
-mod samples;
+pub mod plain;
+pub mod refusals;
+pub mod samples;
 
 pub mod codes;
 pub mod field_failures;
-mod order;
+pub mod order;
 pub mod order_cases;
 pub mod store_cases;
-mod stores;
+pub mod stores;
 pub mod stream_cases;
-mod streams;
+pub mod streams;
 pub mod view_cases;
-mod views;
+pub mod views;

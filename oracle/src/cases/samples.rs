@@ -27,6 +27,12 @@ impl Dice {
         (self.0 >> 33) as usize % bound
     }
 
+    /// A number below one of these bounds.
+    pub fn below_one_of<const N: usize>(&mut self, bounds: [usize; N]) -> usize {
+        let bound = bounds[self.below(N)];
+        self.below(bound)
+    }
+
     pub fn bytes(&mut self, n: usize) -> Vec<u8> {
         (0..n).map(|_| self.below(256) as u8).collect()
     }

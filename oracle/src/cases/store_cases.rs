@@ -12,8 +12,8 @@ const LETTERS: &[u8; 16] = b"GNcTA-aUgCntRGT\0";
 
 pub fn print() {
     for seed in 0..12 {
-        history::<2>(seed);
-        history::<1>(seed);
+        history::<2>(seed, 40);
+        history::<1>(seed, 40);
     }
     alignments::<2>();
     alignments::<1>();
@@ -24,15 +24,15 @@ pub fn print() {
 }
 
 /// A run of calls on one buffer. It is so small that pushes fail for want of room.
-fn history<const B: usize>(seed: usize)
+pub fn history<const B: usize>(seed: usize, calls: usize)
 where
     Bits<B>: SupportedBits,
 {
     let mut dice = Dice(seed as u64);
-    let size = BEHIND + 3 + 5 * seed;
+    let size = BEHIND + 3 + 5 * (seed % 12);
     let mut store = Store::<B>::new(size, [238, 255, 0, 90][seed % 4], 0);
     store.clear();
-    for _ in 0..40 {
+    for _ in 0..calls {
         step(&mut store, &mut dice);
     }
 }
