@@ -17,8 +17,10 @@ test:
 run: target/bin/screen
 	@tools/run target/bin/screen <"$(FASTA)"
 
-target/bin/screen:
-	@rt check screen
+target/bin/screen: crates.txt $(SOURCES)
+	@mkdir -p target
+	@rt check screen >target/screen.log 2>&1 || { cat target/screen.log; exit 1; }
+	@touch $@
 
 lib: $(LIB)
 

@@ -18,8 +18,8 @@
  *               not one byte of a buffer changes.
  *   Pointers    Read or written during the call alone. Buffers of bytes have any alignment, all else its type's own. No two of
  *               a call's pointers may overlap, unless both are only read. A buffer of size 0 may be NULL; no other pointer may.
- *   Threads     No global state, no allocation, no system call. Any number of threads may read the same bytes at once; while one
- *               writes a buffer no other may use it.
+ *   Threads     No global state, no allocation, no system call, and of the C library memset alone. Any number of threads may
+ *               read the same bytes at once; while one writes a buffer no other may use it.
  *
  * LIMITS      a view's bytes, a store's buffer, a stored form                 2^28 bytes (268,435,456)
  *             characters of a stored form                                    2^29
