@@ -1,10 +1,10 @@
 // The stored form, edition 1.
-use crate::give;
 use codes::units::Chars;
+use face::give;
 use forms::forms::read;
 use forms::forms::write;
 ghost use mathlib.Core.Path.{_≡_};
-ghost use Rattle.abi.specs.Face.{said};
+ghost use Rattle.face.specs.Face.{said};
 ghost use Rattle.forms.specs.Forms.{writeAnswer, writeAfter, readAnswer, basesAfter, flagsAfter};
 
 #[no_mangle]

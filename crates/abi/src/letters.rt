@@ -1,14 +1,14 @@
 // Letters and codes, one at a time.
-use crate::give;
 use codes::letters::char_is_ambiguous;
 use codes::letters::complement_base;
 use codes::letters::complement_char;
 use codes::letters::pack_char;
 use codes::letters::pack_char_lossy;
 use codes::letters::unpack_base;
+use face::give;
 ghost use mathlib.Core.List.{[], _∷_};
 ghost use mathlib.Core.Path.{_≡_};
-ghost use Rattle.abi.specs.Face.{said};
+ghost use Rattle.face.specs.Face.{said};
 ghost use Rattle.codes.specs.Codes.{strict, lossy, flag, letter, complement, complementLetter};
 ghost use Rattle.codes.specs.Refusals.{answer, first, badLetter, badCapital, badCode};
 

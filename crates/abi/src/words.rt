@@ -1,5 +1,4 @@
 // Words of 64 bits, and of 128 as a low and a high half.
-use crate::give;
 use codes::units::Chars;
 use codes::words::pack_kmer_lossy;
 use codes::words::pack_kmer_u128_lossy;
@@ -9,11 +8,12 @@ use codes::words::revcomp_u64;
 use codes::words::revcomp_u128;
 use codes::words::unpack_kmer;
 use codes::words::unpack_kmer_u128;
+use face::give;
 ghost use mathlib.Core.List.{[], _∷_, _++_, map};
 ghost use mathlib.Core.Path.{_≡_};
 ghost use Prim.Native.Nat.{_+_, _*_, _^_};
 ghost use lib.ListN.{length, drop};
-ghost use Rattle.abi.specs.Face.{said};
+ghost use Rattle.face.specs.Face.{said};
 ghost use Rattle.codes.specs.Answers.{halves};
 ghost use Rattle.codes.specs.Codes.{lossy, letter, complement};
 ghost use Rattle.codes.specs.Refusals.{answer, first, ifDone, numberOf, badWord, noRoom};

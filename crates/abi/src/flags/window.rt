@@ -1,12 +1,12 @@
 // Flag windows over a view.
-use crate::give;
 use codes::units::Chars;
+use face::give;
 use windows::answers::Windows;
 use windows::flags::fill_windows;
 use windows::flags::step_windows;
 ghost use mathlib.Core.Path.{_≡_};
 ghost use lib.ListN.{length};
-ghost use Rattle.abi.specs.Face.{said, state};
+ghost use Rattle.face.specs.Face.{said, state};
 ghost use Rattle.codes.specs.Refusals.{numberOf};
 ghost use Rattle.windows.specs.Windows.{windowsAnswer, windowsAfter, runOutcome, runAnswers, runState};
 
