@@ -4,9 +4,9 @@ use codes::units::Chars;
 use order::inner::compare;
 use order::inner::find::find_views;
 ghost use mathlib.Core.Path.{_≡_};
+ghost use Rattle.codes.specs.Codes.{IsWidth};
 ghost use Rattle.face.specs.Face.{said};
 ghost use Rattle.order.specs.Order.{compared, ordered, equalled, found};
-ghost use Rattle.codes.specs.Codes.{IsWidth};
 
 pub fn cmp_lcp(
     w: usize,

@@ -12,10 +12,10 @@ use views::inner::parts::slice_numbers;
 use views::inner::parts::view_outcome;
 ghost use mathlib.Core.Bool.{Bool};
 ghost use mathlib.Core.Path.{_≡_};
-ghost use Rattle.face.specs.Face.{said};
-ghost use Rattle.face.specs.Parts.{Part, madePart, slicedPart, normalisedPart, leastPart};
 ghost use Rattle.codes.specs.Codes.{IsWidth};
 ghost use Rattle.codes.specs.declared.refusals.Outcome.the-variants.{Done};
+ghost use Rattle.face.specs.Face.{said};
+ghost use Rattle.face.specs.Parts.{Part, madePart, slicedPart, normalisedPart, leastPart};
 ghost use Rattle.order.specs.Order.{pairOutcome, pairOrder, isSecond};
 
 // The view itself, where it is accepted.

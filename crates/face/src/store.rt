@@ -8,10 +8,10 @@ use stores::inner::calls::push_letters;
 use stores::inner::calls::push_view;
 ghost use mathlib.Core.Path.{_≡_};
 ghost use lib.ListN.{length};
-ghost use Rattle.face.specs.Face.{said};
-ghost use Rattle.stores.specs.Stores.{answered, after};
-ghost use Rattle.stores.specs.Stores as Stores;
 ghost use Rattle.codes.specs.Codes.{IsWidth};
+ghost use Rattle.face.specs.Face.{said};
+ghost use Rattle.stores.specs.Stores as Stores;
+ghost use Rattle.stores.specs.Stores.{answered, after};
 
 pub fn clear(w: usize, buffer: &mut [u8], len: &mut usize) -> u32
     requires { ⌜ IsWidth w ⌝ }

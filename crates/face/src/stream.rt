@@ -7,10 +7,10 @@ use streams::inner::steps;
 ghost use mathlib.Core.List.{[], _∷_};
 ghost use mathlib.Core.Path.{_≡_};
 ghost use lib.ListN.{length};
-ghost use Rattle.face.specs.Face.{said};
-ghost use Rattle.codes.specs.Refusals.{numberOf};
-ghost use Rattle.streams.specs.Streams.{shaped, fillOutcome, fillAnswer, fillAfter, stepOutcome, stepLanes};
 ghost use Rattle.codes.specs.Codes.{IsWidth};
+ghost use Rattle.codes.specs.Refusals.{numberOf};
+ghost use Rattle.face.specs.Face.{said};
+ghost use Rattle.streams.specs.Streams.{shaped, fillOutcome, fillAnswer, fillAfter, stepOutcome, stepLanes};
 
 pub fn shape(
     w: usize,

@@ -1,4 +1,4 @@
-// One view, at any width: the numbers of a call, and the answers behind its pointers.
+// One view, at any width.
 use crate::give;
 use codes::letters::Symbol;
 use codes::units::Chars;
@@ -9,13 +9,13 @@ use views::inner::words;
 use writes::inner::letters::unpack_view;
 use writes::inner::reverse;
 ghost use mathlib.Core.Path.{_≡_};
-ghost use Rattle.face.specs.Face.{said};
+ghost use Prim.Native.Nat.{_≤_};
 ghost use Rattle.codes.specs.Answers.{symbolSays};
+ghost use Rattle.codes.specs.Codes.{IsWidth};
 ghost use Rattle.codes.specs.Refusals.{ifDone, numberOf};
+ghost use Rattle.face.specs.Face.{said};
 ghost use Rattle.views.specs.Views.{got, gotSliced, asU64, asU128, flippedAsU64, flippedAsU128};
 ghost use Rattle.writes.specs.Writes.{unpackOutcome, unpackedOver, flipOutcome, flippedOver};
-ghost use Rattle.codes.specs.Codes.{IsWidth};
-ghost use Prim.Native.Nat.{_≤_};
 
 pub fn get(w: usize, bytes: &[u8], offset: usize, len: usize, i: usize, code: &mut u8) -> u32
     requires { ⌜ IsWidth w ⌝ }
@@ -142,6 +142,7 @@ pub fn to_revcomp(w: usize, bytes: &[u8], offset: usize, len: usize, out: &mut [
     give::no(reverse::to_revcomp(w, bytes, Chars::new(offset), Chars::new(len), out))
 }
 
+// The letters of a view of bases.
 pub fn unpack(bytes: &[u8], offset: usize, len: usize, out: &mut [u8]) -> u32
     ensures number { λ r. ⌜ r ≡ numberOf (unpackOutcome (now (bytes .entry)) offset len (now (out .entry))) ⌝ }
     ensures bytes { λ _. ⌜ now (out .exit) ≡ ifDone (unpackOutcome (now (bytes .entry)) offset len (now (out .entry))) (unpackedOver (now (bytes .entry)) offset len (now (out .entry))) (now (out .entry)) ⌝ }

@@ -6,8 +6,8 @@ use windows::flags::fill_windows;
 use windows::flags::step_windows;
 ghost use mathlib.Core.Path.{_≡_};
 ghost use lib.ListN.{length};
-ghost use Rattle.face.specs.Face.{said, state};
 ghost use Rattle.codes.specs.Refusals.{numberOf};
+ghost use Rattle.face.specs.Face.{said, state};
 ghost use Rattle.windows.specs.Windows.{windowsAnswer, windowsAfter, runOutcome, runAnswers, runState};
 
 pub fn fill(

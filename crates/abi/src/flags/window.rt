@@ -2,8 +2,8 @@
 use plain::window;
 ghost use mathlib.Core.Path.{_≡_};
 ghost use lib.ListN.{length};
-ghost use Rattle.face.specs.Face.{said, state};
 ghost use Rattle.codes.specs.Refusals.{numberOf};
+ghost use Rattle.face.specs.Face.{said, state};
 ghost use Rattle.windows.specs.Windows.{windowsAnswer, windowsAfter, runOutcome, runAnswers, runState};
 
 #[no_mangle]
