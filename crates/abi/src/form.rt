@@ -1,10 +1,7 @@
 // The stored form, edition 1.
-use crate::give;
-use codes::units::Chars;
-use forms::forms::read;
-use forms::forms::write;
+use plain::form;
 ghost use mathlib.Core.Path.{_≡_};
-ghost use Rattle.abi.specs.Face.{said};
+ghost use Rattle.face.specs.Face.{said};
 ghost use Rattle.forms.specs.Forms.{writeAnswer, writeAfter, readAnswer, basesAfter, flagsAfter};
 
 #[no_mangle]
@@ -21,16 +18,14 @@ pub extern "C" fn tsiv_form_write(
     ensures answer { λ r. ⌜ said r (now (written .exit)) ≡ writeAnswer (now (bases .entry)) «base_offset» «base_len» (now (flags .entry)) «flag_offset» «flag_len» (now (out .entry)) ⌝ }
     ensures bytes { λ _. ⌜ now (out .exit) ≡ writeAfter (now (bases .entry)) «base_offset» «base_len» (now (flags .entry)) «flag_offset» «flag_len» (now (out .entry)) ⌝ }
 {
-    give::wrote(
-        write(
-            bases,
-            Chars::new(base_offset),
-            Chars::new(base_len),
-            flags,
-            Chars::new(flag_offset),
-            Chars::new(flag_len),
-            out,
-        ),
+    form::write(
+        bases,
+        base_offset,
+        base_len,
+        flags,
+        flag_offset,
+        flag_len,
+        out,
         written,
     )
 }
@@ -46,5 +41,5 @@ pub extern "C" fn tsiv_form_read(
     ensures base_bytes { λ _. ⌜ now (bases .exit) ≡ basesAfter (now (form .entry)) (now (bases .entry)) (now (flags .entry)) ⌝ }
     ensures flag_bytes { λ _. ⌜ now (flags .exit) ≡ flagsAfter (now (form .entry)) (now (bases .entry)) (now (flags .entry)) ⌝ }
 {
-    give::restored(read(form, bases, flags), len)
+    form::read(form, bases, flags, len)
 }

@@ -1,22 +1,18 @@
 // Letters and codes, one at a time.
-use crate::give;
 use codes::letters::char_is_ambiguous;
-use codes::letters::complement_base;
-use codes::letters::complement_char;
-use codes::letters::pack_char;
 use codes::letters::pack_char_lossy;
-use codes::letters::unpack_base;
+use plain::letters;
 ghost use mathlib.Core.List.{[], _∷_};
 ghost use mathlib.Core.Path.{_≡_};
-ghost use Rattle.abi.specs.Face.{said};
 ghost use Rattle.codes.specs.Codes.{strict, lossy, flag, letter, complement, complementLetter};
 ghost use Rattle.codes.specs.Refusals.{answer, first, badLetter, badCapital, badCode};
+ghost use Rattle.face.specs.Face.{said};
 
 #[no_mangle]
 pub extern "C" fn tsiv_pack_char(byte: u8, code: &mut u8) -> u32
     ensures { λ r. ⌜ said r (now (code .exit)) ≡ answer (first (badLetter byte ∷ [])) (strict byte) 0 ⌝ }
 {
-    give::symbol(pack_char(byte), code)
+    letters::pack_char(byte, code)
 }
 
 #[no_mangle]
@@ -37,19 +33,19 @@ pub extern "C" fn tsiv_char_is_ambiguous(byte: u8) -> u8
 pub extern "C" fn tsiv_unpack_base(code: u8, byte: &mut u8) -> u32
     ensures { λ r. ⌜ said r (now (byte .exit)) ≡ answer (first (badCode code ∷ [])) (letter code) 0 ⌝ }
 {
-    give::symbol(unpack_base(code), byte)
+    letters::unpack_base(code, byte)
 }
 
 #[no_mangle]
 pub extern "C" fn tsiv_complement_char(byte: u8, pair: &mut u8) -> u32
     ensures { λ r. ⌜ said r (now (pair .exit)) ≡ answer (first (badCapital byte ∷ [])) (complementLetter byte) 0 ⌝ }
 {
-    give::symbol(complement_char(byte), pair)
+    letters::complement_char(byte, pair)
 }
 
 #[no_mangle]
 pub extern "C" fn tsiv_complement_base(code: u8, pair: &mut u8) -> u32
     ensures { λ r. ⌜ said r (now (pair .exit)) ≡ answer (first (badCode code ∷ [])) (complement 2 code) 0 ⌝ }
 {
-    give::symbol(complement_base(code), pair)
+    letters::complement_base(code, pair)
 }

@@ -2,8 +2,6 @@
 pub mod bases;
 pub mod flags;
 pub mod form;
-mod give;
 pub mod letters;
-mod parts;
 pub mod rooms;
 pub mod words;

@@ -1,15 +1,10 @@
 // Two views of bases.
-use crate::give;
-use crate::parts;
-use codes::units::Chars;
-use order::bases::cmp;
-use order::bases::cmp_lcp;
-use order::bases::eq;
-use order::bases::find;
+use face::pair;
+use face::parts;
 ghost use mathlib.Core.Bool.{Bool};
 ghost use mathlib.Core.Path.{_≡_};
-ghost use Rattle.abi.specs.Face.{said};
-ghost use Rattle.abi.specs.Parts.{Part, leastPart};
+ghost use Rattle.face.specs.Face.{said};
+ghost use Rattle.face.specs.Parts.{Part, leastPart};
 ghost use Rattle.order.specs.Order.{compared, ordered, equalled, found};
 
 #[no_mangle]
@@ -25,18 +20,7 @@ pub extern "C" fn tsiv_bases_cmp_lcp(
 ) -> u32
     ensures { λ r. ⌜ said r (now (order .exit), now (common .exit)) ≡ compared 2 (now (a .entry)) ao al (now (b .entry)) bo bl ⌝ }
 {
-    give::compared(
-        cmp_lcp(
-            a,
-            Chars::new(ao),
-            Chars::new(al),
-            b,
-            Chars::new(bo),
-            Chars::new(bl),
-        ),
-        order,
-        common,
-    )
+    pair::cmp_lcp(2, a, ao, al, b, bo, bl, order, common)
 }
 
 #[no_mangle]
@@ -51,17 +35,7 @@ pub extern "C" fn tsiv_bases_cmp(
 ) -> u32
     ensures { λ r. ⌜ said r (now (order .exit)) ≡ ordered 2 (now (a .entry)) ao al (now (b .entry)) bo bl ⌝ }
 {
-    give::ordered(
-        cmp(
-            a,
-            Chars::new(ao),
-            Chars::new(al),
-            b,
-            Chars::new(bo),
-            Chars::new(bl),
-        ),
-        order,
-    )
+    pair::cmp(2, a, ao, al, b, bo, bl, order)
 }
 
 #[no_mangle]
@@ -76,17 +50,7 @@ pub extern "C" fn tsiv_bases_eq(
 ) -> u32
     ensures { λ r. ⌜ said r (now (equal .exit)) ≡ equalled 2 (now (a .entry)) ao al (now (b .entry)) bo bl ⌝ }
 {
-    give::equality(
-        eq(
-            a,
-            Chars::new(ao),
-            Chars::new(al),
-            b,
-            Chars::new(bo),
-            Chars::new(bl),
-        ),
-        equal,
-    )
+    pair::eq(2, a, ao, al, b, bo, bl, equal)
 }
 
 #[no_mangle]
@@ -102,18 +66,7 @@ pub extern "C" fn tsiv_bases_find(
 ) -> u32
     ensures { λ r. ⌜ said r (now (there .exit), now (place .exit)) ≡ found 2 (now (pattern .entry)) po pl (now (text .entry)) to tl ⌝ }
 {
-    give::found(
-        find(
-            pattern,
-            Chars::new(po),
-            Chars::new(pl),
-            text,
-            Chars::new(to),
-            Chars::new(tl),
-        ),
-        there,
-        place,
-    )
+    pair::find(2, pattern, po, pl, text, to, tl, there, place)
 }
 
 // The part of whichever view comes first, and whether that is the second.

@@ -1,18 +1,10 @@
 // Streams over a view of bases.
-use crate::give;
-use codes::units::Chars;
-use streams::bases::fill;
-use streams::bases::fill_delayed;
-use streams::bases::fill_delayed_2;
-use streams::bases::shape;
-use streams::bases::step;
-use streams::bases::step_delayed;
-use streams::bases::step_delayed_2;
+use face::stream;
 ghost use mathlib.Core.List.{[], _∷_};
 ghost use mathlib.Core.Path.{_≡_};
 ghost use lib.ListN.{length};
-ghost use Rattle.abi.specs.Face.{said};
 ghost use Rattle.codes.specs.Refusals.{numberOf};
+ghost use Rattle.face.specs.Face.{said};
 ghost use Rattle.streams.specs.Streams.{shaped, fillOutcome, fillAnswer, fillAfter, stepOutcome, stepLanes};
 
 #[no_mangle]
@@ -26,12 +18,7 @@ pub extern "C" fn tsiv_bases_shape(
 ) -> u32
     ensures { λ r. ⌜ said r (now (lane .exit), now (padding .exit), now (steps .exit)) ≡ shaped 2 len context factor ⌝ }
 {
-    give::shape(
-        shape(Chars::new(len), Chars::new(context), factor),
-        lane,
-        padding,
-        steps,
-    )
+    stream::shape(2, len, context, factor, lane, padding, steps)
 }
 
 #[no_mangle]
@@ -48,18 +35,7 @@ pub extern "C" fn tsiv_bases_fill(
     ensures answer { λ r. ⌜ said r (now (steps .exit), now (padding .exit)) ≡ fillAnswer 2 (now (bytes .entry)) offset len context factor 0 0 (length (now (out .entry)) ∷ []) ⌝ }
     ensures out { λ _. ⌜ now (out .exit) ≡ fillAfter 2 (now (bytes .entry)) offset len context factor 0 (fillOutcome 2 (now (bytes .entry)) offset len context factor 0 0 (length (now (out .entry)) ∷ [])) (now (out .entry)) ⌝ }
 {
-    give::filled(
-        fill(
-            bytes,
-            Chars::new(offset),
-            Chars::new(len),
-            Chars::new(context),
-            factor,
-            out,
-        ),
-        steps,
-        padding,
-    )
+    stream::fill(2, bytes, offset, len, context, factor, out, steps, padding)
 }
 
 #[no_mangle]
@@ -79,17 +55,16 @@ pub extern "C" fn tsiv_bases_fill_delayed(
     ensures out { λ _. ⌜ now (out .exit) ≡ fillAfter 2 (now (bytes .entry)) offset len context factor 0 (fillOutcome 2 (now (bytes .entry)) offset len context factor delay delay (length (now (out .entry)) ∷ length (now (delayed .entry)) ∷ [])) (now (out .entry)) ⌝ }
     ensures delayed { λ _. ⌜ now (delayed .exit) ≡ fillAfter 2 (now (bytes .entry)) offset len context factor delay (fillOutcome 2 (now (bytes .entry)) offset len context factor delay delay (length (now (out .entry)) ∷ length (now (delayed .entry)) ∷ [])) (now (delayed .entry)) ⌝ }
 {
-    give::filled(
-        fill_delayed(
-            bytes,
-            Chars::new(offset),
-            Chars::new(len),
-            Chars::new(context),
-            factor,
-            Chars::new(delay),
-            out,
-            delayed,
-        ),
+    stream::fill_delayed(
+        2,
+        bytes,
+        offset,
+        len,
+        context,
+        factor,
+        delay,
+        out,
+        delayed,
         steps,
         padding,
     )
@@ -115,19 +90,18 @@ pub extern "C" fn tsiv_bases_fill_delayed_2(
     ensures out1 { λ _. ⌜ now (out1 .exit) ≡ fillAfter 2 (now (bytes .entry)) offset len context factor first (fillOutcome 2 (now (bytes .entry)) offset len context factor first second (length (now (out .entry)) ∷ length (now (out1 .entry)) ∷ length (now (out2 .entry)) ∷ [])) (now (out1 .entry)) ⌝ }
     ensures out2 { λ _. ⌜ now (out2 .exit) ≡ fillAfter 2 (now (bytes .entry)) offset len context factor second (fillOutcome 2 (now (bytes .entry)) offset len context factor first second (length (now (out .entry)) ∷ length (now (out1 .entry)) ∷ length (now (out2 .entry)) ∷ [])) (now (out2 .entry)) ⌝ }
 {
-    give::filled(
-        fill_delayed_2(
-            bytes,
-            Chars::new(offset),
-            Chars::new(len),
-            Chars::new(context),
-            factor,
-            Chars::new(first),
-            Chars::new(second),
-            out,
-            out1,
-            out2,
-        ),
+    stream::fill_delayed_2(
+        2,
+        bytes,
+        offset,
+        len,
+        context,
+        factor,
+        first,
+        second,
+        out,
+        out1,
+        out2,
         steps,
         padding,
     )
@@ -146,18 +120,7 @@ pub extern "C" fn tsiv_bases_step(
     ensures number { λ r. ⌜ r ≡ numberOf (stepOutcome 2 (now (bytes .entry)) offset len context factor 0 0 j) ⌝ }
     ensures lanes { λ _. ⌜ now (lanes .exit) ≡ stepLanes 2 (now (bytes .entry)) offset len context factor 0 j (stepOutcome 2 (now (bytes .entry)) offset len context factor 0 0 j) ⌝ }
 {
-    let stepped = step(
-        bytes,
-        Chars::new(offset),
-        Chars::new(len),
-        Chars::new(context),
-        factor,
-        j,
-    );
-    let plain = stepped.lanes;
-    let outcome = stepped.outcome;
-    *lanes = plain;
-    give::no(outcome)
+    stream::step(2, bytes, offset, len, context, factor, j, lanes)
 }
 
 #[no_mangle]
@@ -176,21 +139,18 @@ pub extern "C" fn tsiv_bases_step_delayed(
     ensures lanes { λ _. ⌜ now (lanes .exit) ≡ stepLanes 2 (now (bytes .entry)) offset len context factor 0 j (stepOutcome 2 (now (bytes .entry)) offset len context factor delay delay j) ⌝ }
     ensures lanes1 { λ _. ⌜ now (lanes1 .exit) ≡ stepLanes 2 (now (bytes .entry)) offset len context factor delay j (stepOutcome 2 (now (bytes .entry)) offset len context factor delay delay j) ⌝ }
 {
-    let stepped = step_delayed(
+    stream::step_delayed(
+        2,
         bytes,
-        Chars::new(offset),
-        Chars::new(len),
-        Chars::new(context),
+        offset,
+        len,
+        context,
         factor,
-        Chars::new(delay),
+        delay,
         j,
-    );
-    let plain = stepped.lanes;
-    let late = stepped.delayed;
-    let outcome = stepped.outcome;
-    *lanes = plain;
-    *lanes1 = late;
-    give::no(outcome)
+        lanes,
+        lanes1,
+    )
 }
 
 #[no_mangle]
@@ -212,22 +172,18 @@ pub extern "C" fn tsiv_bases_step_delayed_2(
     ensures lanes1 { λ _. ⌜ now (lanes1 .exit) ≡ stepLanes 2 (now (bytes .entry)) offset len context factor first j (stepOutcome 2 (now (bytes .entry)) offset len context factor first second j) ⌝ }
     ensures lanes2 { λ _. ⌜ now (lanes2 .exit) ≡ stepLanes 2 (now (bytes .entry)) offset len context factor second j (stepOutcome 2 (now (bytes .entry)) offset len context factor first second j) ⌝ }
 {
-    let stepped = step_delayed_2(
+    stream::step_delayed_2(
+        2,
         bytes,
-        Chars::new(offset),
-        Chars::new(len),
-        Chars::new(context),
+        offset,
+        len,
+        context,
         factor,
-        Chars::new(first),
-        Chars::new(second),
+        first,
+        second,
         j,
-    );
-    let plain = stepped.lanes;
-    let late1 = stepped.first;
-    let late2 = stepped.second;
-    let outcome = stepped.outcome;
-    *lanes = plain;
-    *lanes1 = late1;
-    *lanes2 = late2;
-    give::no(outcome)
+        lanes,
+        lanes1,
+        lanes2,
+    )
 }

@@ -1,19 +1,10 @@
 // One view of bases.
-use crate::give;
-use crate::parts;
-use codes::units::Chars;
-use views::bases::as_u64;
-use views::bases::as_u128;
-use views::bases::get_sliced;
-use views::bases::revcomp_as_u64;
-use views::bases::revcomp_as_u128;
-use views::inner::parts::get_at;
-use writes::bases::to_revcomp;
-use writes::bases::unpack;
+use face::parts;
+use face::view;
 ghost use mathlib.Core.Path.{_≡_};
-ghost use Rattle.abi.specs.Face.{said};
-ghost use Rattle.abi.specs.Parts.{madePart, slicedPart, normalisedPart};
 ghost use Rattle.codes.specs.Refusals.{ifDone, numberOf};
+ghost use Rattle.face.specs.Face.{said};
+ghost use Rattle.face.specs.Parts.{madePart, slicedPart, normalisedPart};
 ghost use Rattle.views.specs.Views.{got, gotSliced, asU64, asU128, flippedAsU64, flippedAsU128};
 ghost use Rattle.writes.specs.Writes.{unpackOutcome, unpackedOver, flipOutcome, flippedOver};
 
@@ -86,10 +77,7 @@ pub extern "C" fn tsiv_bases_get(
 ) -> u32
     ensures { λ r. ⌜ said r (now (code .exit)) ≡ got 2 (now (bytes .entry)) offset len i ⌝ }
 {
-    give::symbol(
-        get_at(2, bytes, Chars::new(offset), Chars::new(len), Chars::new(i)),
-        code,
-    )
+    view::get(2, bytes, offset, len, i, code)
 }
 
 #[no_mangle]
@@ -104,24 +92,14 @@ pub extern "C" fn tsiv_bases_get_sliced(
 ) -> u32
     ensures { λ r. ⌜ said r (now (code .exit)) ≡ gotSliced 2 (now (bytes .entry)) offset len start end i ⌝ }
 {
-    give::symbol(
-        get_sliced(
-            bytes,
-            Chars::new(offset),
-            Chars::new(len),
-            Chars::new(start),
-            Chars::new(end),
-            Chars::new(i),
-        ),
-        code,
-    )
+    view::get_sliced(2, bytes, offset, len, start, end, i, code)
 }
 
 #[no_mangle]
 pub extern "C" fn tsiv_bases_as_u64(bytes: &[u8], offset: usize, len: usize, word: &mut u64) -> u32
     ensures { λ r. ⌜ said r (now (word .exit)) ≡ asU64 2 (now (bytes .entry)) offset len ⌝ }
 {
-    give::word(as_u64(bytes, Chars::new(offset), Chars::new(len)), word)
+    view::as_u64(2, bytes, offset, len, word)
 }
 
 #[no_mangle]
@@ -133,10 +111,7 @@ pub extern "C" fn tsiv_bases_revcomp_as_u64(
 ) -> u32
     ensures { λ r. ⌜ said r (now (word .exit)) ≡ flippedAsU64 2 (now (bytes .entry)) offset len ⌝ }
 {
-    give::word(
-        revcomp_as_u64(bytes, Chars::new(offset), Chars::new(len)),
-        word,
-    )
+    view::revcomp_as_u64(2, bytes, offset, len, word)
 }
 
 #[no_mangle]
@@ -149,11 +124,7 @@ pub extern "C" fn tsiv_bases_as_u128(
 ) -> u32
     ensures { λ r. ⌜ said r (now (low .exit), now (high .exit)) ≡ asU128 2 (now (bytes .entry)) offset len ⌝ }
 {
-    give::word128(
-        as_u128(bytes, Chars::new(offset), Chars::new(len)),
-        low,
-        high,
-    )
+    view::as_u128(2, bytes, offset, len, low, high)
 }
 
 #[no_mangle]
@@ -166,11 +137,7 @@ pub extern "C" fn tsiv_bases_revcomp_as_u128(
 ) -> u32
     ensures { λ r. ⌜ said r (now (low .exit), now (high .exit)) ≡ flippedAsU128 2 (now (bytes .entry)) offset len ⌝ }
 {
-    give::word128(
-        revcomp_as_u128(bytes, Chars::new(offset), Chars::new(len)),
-        low,
-        high,
-    )
+    view::revcomp_as_u128(2, bytes, offset, len, low, high)
 }
 
 #[no_mangle]
@@ -183,7 +150,7 @@ pub extern "C" fn tsiv_bases_to_revcomp(
     ensures number { λ r. ⌜ r ≡ numberOf (flipOutcome 2 (now (bytes .entry)) offset len (now (out .entry))) ⌝ }
     ensures bytes { λ _. ⌜ now (out .exit) ≡ ifDone (flipOutcome 2 (now (bytes .entry)) offset len (now (out .entry))) (flippedOver 2 (now (bytes .entry)) offset len (now (out .entry))) (now (out .entry)) ⌝ }
 {
-    give::no(to_revcomp(bytes, Chars::new(offset), Chars::new(len), out))
+    view::to_revcomp(2, bytes, offset, len, out)
 }
 
 #[no_mangle]
@@ -191,5 +158,5 @@ pub extern "C" fn tsiv_bases_unpack(bytes: &[u8], offset: usize, len: usize, out
     ensures number { λ r. ⌜ r ≡ numberOf (unpackOutcome (now (bytes .entry)) offset len (now (out .entry))) ⌝ }
     ensures bytes { λ _. ⌜ now (out .exit) ≡ ifDone (unpackOutcome (now (bytes .entry)) offset len (now (out .entry))) (unpackedOver (now (bytes .entry)) offset len (now (out .entry))) (now (out .entry)) ⌝ }
 {
-    give::no(unpack(bytes, Chars::new(offset), Chars::new(len), out))
+    view::unpack(bytes, offset, len, out)
 }

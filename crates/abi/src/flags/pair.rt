@@ -1,15 +1,10 @@
 // Two views of flags.
-use crate::give;
-use crate::parts;
-use codes::units::Chars;
-use order::flags::cmp;
-use order::flags::cmp_lcp;
-use order::flags::eq;
-use order::flags::find;
+use face::pair;
+use face::parts;
 ghost use mathlib.Core.Bool.{Bool};
 ghost use mathlib.Core.Path.{_≡_};
-ghost use Rattle.abi.specs.Face.{said};
-ghost use Rattle.abi.specs.Parts.{Part, leastPart};
+ghost use Rattle.face.specs.Face.{said};
+ghost use Rattle.face.specs.Parts.{Part, leastPart};
 ghost use Rattle.order.specs.Order.{compared, ordered, equalled, found};
 
 #[no_mangle]
@@ -25,18 +20,7 @@ pub extern "C" fn tsiv_flags_cmp_lcp(
 ) -> u32
     ensures { λ r. ⌜ said r (now (order .exit), now (common .exit)) ≡ compared 1 (now (a .entry)) ao al (now (b .entry)) bo bl ⌝ }
 {
-    give::compared(
-        cmp_lcp(
-            a,
-            Chars::new(ao),
-            Chars::new(al),
-            b,
-            Chars::new(bo),
-            Chars::new(bl),
-        ),
-        order,
-        common,
-    )
+    pair::cmp_lcp(1, a, ao, al, b, bo, bl, order, common)
 }
 
 #[no_mangle]
@@ -51,17 +35,7 @@ pub extern "C" fn tsiv_flags_cmp(
 ) -> u32
     ensures { λ r. ⌜ said r (now (order .exit)) ≡ ordered 1 (now (a .entry)) ao al (now (b .entry)) bo bl ⌝ }
 {
-    give::ordered(
-        cmp(
-            a,
-            Chars::new(ao),
-            Chars::new(al),
-            b,
-            Chars::new(bo),
-            Chars::new(bl),
-        ),
-        order,
-    )
+    pair::cmp(1, a, ao, al, b, bo, bl, order)
 }
 
 #[no_mangle]
@@ -76,17 +50,7 @@ pub extern "C" fn tsiv_flags_eq(
 ) -> u32
     ensures { λ r. ⌜ said r (now (equal .exit)) ≡ equalled 1 (now (a .entry)) ao al (now (b .entry)) bo bl ⌝ }
 {
-    give::equality(
-        eq(
-            a,
-            Chars::new(ao),
-            Chars::new(al),
-            b,
-            Chars::new(bo),
-            Chars::new(bl),
-        ),
-        equal,
-    )
+    pair::eq(1, a, ao, al, b, bo, bl, equal)
 }
 
 #[no_mangle]
@@ -102,18 +66,7 @@ pub extern "C" fn tsiv_flags_find(
 ) -> u32
     ensures { λ r. ⌜ said r (now (there .exit), now (place .exit)) ≡ found 1 (now (pattern .entry)) po pl (now (text .entry)) to tl ⌝ }
 {
-    give::found(
-        find(
-            pattern,
-            Chars::new(po),
-            Chars::new(pl),
-            text,
-            Chars::new(to),
-            Chars::new(tl),
-        ),
-        there,
-        place,
-    )
+    pair::find(1, pattern, po, pl, text, to, tl, there, place)
 }
 
 // The part of whichever view comes first, and whether that is the second.

@@ -1,18 +1,10 @@
 // One view of flags.
-use crate::give;
-use crate::parts;
-use codes::units::Chars;
-use views::flags::as_u64;
-use views::flags::as_u128;
-use views::flags::get_sliced;
-use views::flags::revcomp_as_u64;
-use views::flags::revcomp_as_u128;
-use views::inner::parts::get_at;
-use writes::flags::to_revcomp;
+use face::parts;
+use face::view;
 ghost use mathlib.Core.Path.{_≡_};
-ghost use Rattle.abi.specs.Face.{said};
-ghost use Rattle.abi.specs.Parts.{madePart, slicedPart, normalisedPart};
 ghost use Rattle.codes.specs.Refusals.{ifDone, numberOf};
+ghost use Rattle.face.specs.Face.{said};
+ghost use Rattle.face.specs.Parts.{madePart, slicedPart, normalisedPart};
 ghost use Rattle.views.specs.Views.{got, gotSliced, asU64, asU128, flippedAsU64, flippedAsU128};
 ghost use Rattle.writes.specs.Writes.{flipOutcome, flippedOver};
 
@@ -85,10 +77,7 @@ pub extern "C" fn tsiv_flags_get(
 ) -> u32
     ensures { λ r. ⌜ said r (now (code .exit)) ≡ got 1 (now (bytes .entry)) offset len i ⌝ }
 {
-    give::symbol(
-        get_at(1, bytes, Chars::new(offset), Chars::new(len), Chars::new(i)),
-        code,
-    )
+    view::get(1, bytes, offset, len, i, code)
 }
 
 #[no_mangle]
@@ -103,24 +92,14 @@ pub extern "C" fn tsiv_flags_get_sliced(
 ) -> u32
     ensures { λ r. ⌜ said r (now (code .exit)) ≡ gotSliced 1 (now (bytes .entry)) offset len start end i ⌝ }
 {
-    give::symbol(
-        get_sliced(
-            bytes,
-            Chars::new(offset),
-            Chars::new(len),
-            Chars::new(start),
-            Chars::new(end),
-            Chars::new(i),
-        ),
-        code,
-    )
+    view::get_sliced(1, bytes, offset, len, start, end, i, code)
 }
 
 #[no_mangle]
 pub extern "C" fn tsiv_flags_as_u64(bytes: &[u8], offset: usize, len: usize, word: &mut u64) -> u32
     ensures { λ r. ⌜ said r (now (word .exit)) ≡ asU64 1 (now (bytes .entry)) offset len ⌝ }
 {
-    give::word(as_u64(bytes, Chars::new(offset), Chars::new(len)), word)
+    view::as_u64(1, bytes, offset, len, word)
 }
 
 #[no_mangle]
@@ -132,10 +111,7 @@ pub extern "C" fn tsiv_flags_revcomp_as_u64(
 ) -> u32
     ensures { λ r. ⌜ said r (now (word .exit)) ≡ flippedAsU64 1 (now (bytes .entry)) offset len ⌝ }
 {
-    give::word(
-        revcomp_as_u64(bytes, Chars::new(offset), Chars::new(len)),
-        word,
-    )
+    view::revcomp_as_u64(1, bytes, offset, len, word)
 }
 
 #[no_mangle]
@@ -148,11 +124,7 @@ pub extern "C" fn tsiv_flags_as_u128(
 ) -> u32
     ensures { λ r. ⌜ said r (now (low .exit), now (high .exit)) ≡ asU128 1 (now (bytes .entry)) offset len ⌝ }
 {
-    give::word128(
-        as_u128(bytes, Chars::new(offset), Chars::new(len)),
-        low,
-        high,
-    )
+    view::as_u128(1, bytes, offset, len, low, high)
 }
 
 #[no_mangle]
@@ -165,11 +137,7 @@ pub extern "C" fn tsiv_flags_revcomp_as_u128(
 ) -> u32
     ensures { λ r. ⌜ said r (now (low .exit), now (high .exit)) ≡ flippedAsU128 1 (now (bytes .entry)) offset len ⌝ }
 {
-    give::word128(
-        revcomp_as_u128(bytes, Chars::new(offset), Chars::new(len)),
-        low,
-        high,
-    )
+    view::revcomp_as_u128(1, bytes, offset, len, low, high)
 }
 
 #[no_mangle]
@@ -182,5 +150,5 @@ pub extern "C" fn tsiv_flags_to_revcomp(
     ensures number { λ r. ⌜ r ≡ numberOf (flipOutcome 1 (now (bytes .entry)) offset len (now (out .entry))) ⌝ }
     ensures bytes { λ _. ⌜ now (out .exit) ≡ ifDone (flipOutcome 1 (now (bytes .entry)) offset len (now (out .entry))) (flippedOver 1 (now (bytes .entry)) offset len (now (out .entry))) (now (out .entry)) ⌝ }
 {
-    give::no(to_revcomp(bytes, Chars::new(offset), Chars::new(len), out))
+    view::to_revcomp(1, bytes, offset, len, out)
 }

@@ -1,13 +1,9 @@
 // Flag windows over a view.
-use crate::give;
-use codes::units::Chars;
-use windows::answers::Windows;
-use windows::flags::fill_windows;
-use windows::flags::step_windows;
+use plain::window;
 ghost use mathlib.Core.Path.{_≡_};
 ghost use lib.ListN.{length};
-ghost use Rattle.abi.specs.Face.{said, state};
 ghost use Rattle.codes.specs.Refusals.{numberOf};
+ghost use Rattle.face.specs.Face.{said, state};
 ghost use Rattle.windows.specs.Windows.{windowsAnswer, windowsAfter, runOutcome, runAnswers, runState};
 
 #[no_mangle]
@@ -25,19 +21,7 @@ pub extern "C" fn tsiv_flags_fill_windows(
     ensures answer { λ r. ⌜ said r (now (steps .exit), now (padding .exit)) ≡ windowsAnswer (now (bytes .entry)) offset len context k skip (length (now (out .entry))) ⌝ }
     ensures out { λ _. ⌜ now (out .exit) ≡ windowsAfter (now (bytes .entry)) offset len context k skip (now (out .entry)) ⌝ }
 {
-    give::filled(
-        fill_windows(
-            bytes,
-            Chars::new(offset),
-            Chars::new(len),
-            Chars::new(context),
-            Chars::new(k),
-            skip,
-            out,
-        ),
-        steps,
-        padding,
-    )
+    window::fill(bytes, offset, len, context, k, skip, out, steps, padding)
 }
 
 #[no_mangle]
@@ -57,25 +41,16 @@ pub extern "C" fn tsiv_flags_step_windows(
     ensures answers { λ _. ⌜ now (answers .exit) ≡ runAnswers (now (bytes .entry)) offset len context k (state (now (counts .entry)) step) ⌝ }
     ensures state { λ _. ⌜ state (now («next_counts» .exit)) (now («next_step» .exit)) ≡ runState (now (bytes .entry)) offset len context k (state (now (counts .entry)) step) ⌝ }
 {
-    let before = *counts;
-    let state = Windows {
-        counts: before,
-        step,
-    };
-    let ran = step_windows(
+    window::step(
         bytes,
-        Chars::new(offset),
-        Chars::new(len),
-        Chars::new(context),
-        Chars::new(k),
-        state,
-    );
-    let windows = ran.answers;
-    let next = ran.state;
-    let after = next.counts;
-    let outcome = ran.outcome;
-    *answers = windows;
-    *next_counts = after;
-    *next_step = next.step;
-    give::no(outcome)
+        offset,
+        len,
+        context,
+        k,
+        counts,
+        step,
+        answers,
+        next_counts,
+        next_step,
+    )
 }

@@ -1,0 +1,41 @@
+// The stored form, edition 1.
+use codes::units::Chars;
+use face::give;
+ghost use mathlib.Core.Path.{_≡_};
+ghost use Rattle.face.specs.Face.{said};
+ghost use Rattle.forms.specs.Forms.{writeAnswer, writeAfter, readAnswer, basesAfter, flagsAfter};
+
+pub fn write(
+    bases: &[u8],
+    base_offset: usize,
+    base_len: usize,
+    flags: &[u8],
+    flag_offset: usize,
+    flag_len: usize,
+    out: &mut [u8],
+    written: &mut usize,
+) -> u32
+    ensures answer { λ r. ⌜ said r (now (written .exit)) ≡ writeAnswer (now (bases .entry)) «base_offset» «base_len» (now (flags .entry)) «flag_offset» «flag_len» (now (out .entry)) ⌝ }
+    ensures bytes { λ _. ⌜ now (out .exit) ≡ writeAfter (now (bases .entry)) «base_offset» «base_len» (now (flags .entry)) «flag_offset» «flag_len» (now (out .entry)) ⌝ }
+{
+    give::wrote(
+        forms::forms::write(
+            bases,
+            Chars::new(base_offset),
+            Chars::new(base_len),
+            flags,
+            Chars::new(flag_offset),
+            Chars::new(flag_len),
+            out,
+        ),
+        written,
+    )
+}
+
+pub fn read(form: &[u8], bases: &mut [u8], flags: &mut [u8], len: &mut usize) -> u32
+    ensures answer { λ r. ⌜ said r (now (len .exit)) ≡ readAnswer (now (form .entry)) (now (bases .entry)) (now (flags .entry)) ⌝ }
+    ensures base_bytes { λ _. ⌜ now (bases .exit) ≡ basesAfter (now (form .entry)) (now (bases .entry)) (now (flags .entry)) ⌝ }
+    ensures flag_bytes { λ _. ⌜ now (flags .exit) ≡ flagsAfter (now (form .entry)) (now (bases .entry)) (now (flags .entry)) ⌝ }
+{
+    give::restored(forms::forms::read(form, bases, flags), len)
+}
