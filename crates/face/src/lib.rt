@@ -1,7 +1,2 @@
 // The calls of the C face over the width: plain numbers in, the refusal number back, and the other numbers through pointers.
-pub mod give;
-pub mod pair;
-pub mod parts;
-pub mod store;
-pub mod stream;
-pub mod view;
+pub mod inner;

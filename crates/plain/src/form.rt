@@ -1,6 +1,6 @@
 // The stored form, edition 1.
 use codes::units::Chars;
-use face::give;
+use face::inner::give;
 ghost use mathlib.Core.Path.{_≡_};
 ghost use Rattle.face.specs.Face.{said};
 ghost use Rattle.forms.specs.Forms.{writeAnswer, writeAfter, readAnswer, basesAfter, flagsAfter};

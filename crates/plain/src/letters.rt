@@ -1,6 +1,6 @@
 // Letters and codes, one at a time.
 use codes::letters;
-use face::give;
+use face::inner::give;
 ghost use mathlib.Core.List.{[], _∷_};
 ghost use mathlib.Core.Path.{_≡_};
 ghost use Rattle.codes.specs.Codes.{strict, letter, complement, complementLetter};

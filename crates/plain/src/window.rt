@@ -1,6 +1,6 @@
 // Flag windows over a view.
 use codes::units::Chars;
-use face::give;
+use face::inner::give;
 use windows::answers::Windows;
 use windows::flags::fill_windows;
 use windows::flags::step_windows;

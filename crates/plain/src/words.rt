@@ -1,7 +1,7 @@
 // Words of 64 bits, and of 128 as a low and a high half.
 use codes::units::Chars;
 use codes::words;
-use face::give;
+use face::inner::give;
 ghost use mathlib.Core.List.{[], _∷_, _++_, map};
 ghost use mathlib.Core.Path.{_≡_};
 ghost use Prim.Native.Nat.{_+_, _*_, _^_};

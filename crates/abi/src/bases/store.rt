@@ -1,5 +1,5 @@
 // Stores of bases: a buffer and its length, which a call brings up to date.
-use face::store;
+use face::inner::store;
 ghost use mathlib.Core.Path.{_≡_};
 ghost use lib.ListN.{length};
 ghost use Rattle.face.specs.Face.{said};

@@ -1,6 +1,6 @@
 // One view of bases.
-use face::parts;
-use face::view;
+use face::inner::parts;
+use face::inner::view;
 ghost use mathlib.Core.Path.{_≡_};
 ghost use Rattle.codes.specs.Refusals.{ifDone, numberOf};
 ghost use Rattle.face.specs.Face.{said};

@@ -1,0 +1,74 @@
+-- By what the view is, and the length of its part. Assumes nothing.
+use mathlib.Core.List.{List}
+use mathlib.Core.Path.{ap₂, _∙_}
+use Prim.Native.Nat.{ℕ, _/_, _%_}
+use lib.ListN.{length}
+use Rattle.codes.specs.Codes.{per}
+use Rattle.codes.specs.Refusals.{answer, first}
+use Rattle.codes.specs.declared.refusals.Outcome.{Outcome}
+use Rattle.views.specs.Views.{viewTests, normalPart}
+use Rattle.face.specs.Parts.{Part, none, normalisedPart}
+use Rattle.face.proofs.PartLaws.{part-bytes}
+use borrow.Author.Needs.{needs}
+use Rattle.face.proofs.inner.parts.normalised.Statement.{statement}
+use Rattle.face.proofs.inner.parts.normalised.Tie as tie
+
+new-requires : tie.Need-new-requires
+new-requires c κs = tt
+
+new-requires-2 : tie.Need-new-requires-2
+new-requires-2 c κs = tt
+
+view-outcome-requires : tie.Need-view-outcome-requires
+view-outcome-requires c κs = search needs
+
+normal-part-requires : tie.Need-normal-part-requires
+normal-part-requires c κs = search needs
+
+byte-of-requires : tie.Need-byte-of-requires
+byte-of-requires c κs = search needs
+
+count-requires : tie.Need-count-requires
+count-requires c κs = tt
+
+within-byte-requires : tie.Need-within-byte-requires
+within-byte-requires c κs = search needs
+
+count-requires-2 : tie.Need-count-requires-2
+count-requires-2 c κs = tt
+
+part-requires : tie.Need-part-requires
+part-requires c κs = tt
+
+returns : tie.Need-returns
+unfolding normalisedPart
+returns c =
+    let k = c .before .before .before .before .before in
+    let s = k .before .before .before .before in
+    let a = s .before .before .before .before .before .args in
+    let w = a .w in
+    let new = s .before .before .before .new .ensures in
+    let new2 = s .before .before .new2 .ensures in
+    let outcome = rw (new, new2) at (s .before .view-outcome .ensures) in
+    let bytes = rw (new, new2) at (s .normal-part .ensures) in
+    let at = k .before .before .count .ensures ∙ rw new at (k .before .before .before .byte-of .ensures) in
+    let within = k .count2 .ensures ∙ rw new at (k .before .within-byte .ensures) in
+    c .part .ensures
+    ∙ ap₂ (λ (x y : ℕ). answer {A = Part} (s .before .view-outcome .result) (x, length (s .normal-part .result .now), y, a .len) none) at within
+    ∙ ap₂ (λ (p : Outcome) (bs : List ℕ). answer {A = Part} p (a .offset / per w, length bs, a .offset % per w, a .len) none) outcome bytes
+    ∙ part-bytes (first (viewTests w (length (a .bytes .now)) (a .offset) (a .len))) (a .offset / per w) (a .offset % per w) (a .len) (normalPart w (a .bytes .now) (a .offset) (a .len))
+
+pub normalised-spec : {M : Type 1} → statement M
+normalised-spec =
+    tie.close
+    (tie.spec
+    new-requires
+    new-requires-2
+    view-outcome-requires
+    normal-part-requires
+    byte-of-requires
+    count-requires
+    within-byte-requires
+    count-requires-2
+    part-requires
+    returns)

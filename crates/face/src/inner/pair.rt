@@ -1,0 +1,121 @@
+// Two views, at any width.
+use crate::inner::give;
+use codes::units::Chars;
+use order::inner::compare;
+use order::inner::find::find_views;
+ghost use mathlib.Core.Path.{_≡_};
+ghost use Rattle.codes.specs.Codes.{IsWidth};
+ghost use Rattle.face.specs.Face.{said};
+ghost use Rattle.order.specs.Order.{compared, ordered, equalled, found};
+
+pub fn cmp_lcp(
+    w: usize,
+    a: &[u8],
+    ao: usize,
+    al: usize,
+    b: &[u8],
+    bo: usize,
+    bl: usize,
+    order: &mut i32,
+    common: &mut usize,
+) -> u32
+    requires { ⌜ IsWidth w ⌝ }
+    ensures { λ r. ⌜ said r (now (order .exit), now (common .exit)) ≡ compared w (now (a .entry)) ao al (now (b .entry)) bo bl ⌝ }
+{
+    give::compared(
+        compare::cmp_lcp(
+            w,
+            a,
+            Chars::new(ao),
+            Chars::new(al),
+            b,
+            Chars::new(bo),
+            Chars::new(bl),
+        ),
+        order,
+        common,
+    )
+}
+
+pub fn cmp(
+    w: usize,
+    a: &[u8],
+    ao: usize,
+    al: usize,
+    b: &[u8],
+    bo: usize,
+    bl: usize,
+    order: &mut i32,
+) -> u32
+    requires { ⌜ IsWidth w ⌝ }
+    ensures { λ r. ⌜ said r (now (order .exit)) ≡ ordered w (now (a .entry)) ao al (now (b .entry)) bo bl ⌝ }
+{
+    give::ordered(
+        compare::cmp(
+            w,
+            a,
+            Chars::new(ao),
+            Chars::new(al),
+            b,
+            Chars::new(bo),
+            Chars::new(bl),
+        ),
+        order,
+    )
+}
+
+pub fn eq(
+    w: usize,
+    a: &[u8],
+    ao: usize,
+    al: usize,
+    b: &[u8],
+    bo: usize,
+    bl: usize,
+    equal: &mut bool,
+) -> u32
+    requires { ⌜ IsWidth w ⌝ }
+    ensures { λ r. ⌜ said r (now (equal .exit)) ≡ equalled w (now (a .entry)) ao al (now (b .entry)) bo bl ⌝ }
+{
+    give::equality(
+        compare::eq(
+            w,
+            a,
+            Chars::new(ao),
+            Chars::new(al),
+            b,
+            Chars::new(bo),
+            Chars::new(bl),
+        ),
+        equal,
+    )
+}
+
+pub fn find(
+    w: usize,
+    pattern: &[u8],
+    po: usize,
+    pl: usize,
+    text: &[u8],
+    to: usize,
+    tl: usize,
+    there: &mut bool,
+    place: &mut usize,
+) -> u32
+    requires { ⌜ IsWidth w ⌝ }
+    ensures { λ r. ⌜ said r (now (there .exit), now (place .exit)) ≡ found w (now (pattern .entry)) po pl (now (text .entry)) to tl ⌝ }
+{
+    give::found(
+        find_views(
+            w,
+            pattern,
+            Chars::new(po),
+            Chars::new(pl),
+            text,
+            Chars::new(to),
+            Chars::new(tl),
+        ),
+        there,
+        place,
+    )
+}
