@@ -10,10 +10,12 @@ use Rattle.codes.specs.declared.refusals.Outcome.the-variants.{Done, Refused}
 use Rattle.codes.specs.declared.refusals.Refusal.{Refusal}
 use Rattle.codes.specs.declared.units.Chars.{Chars}
 use Rattle.streams.specs.Answers.{filledSays}
-use Rattle.streams.specs.Streams.{lane, padding, steps, filled, streamTests, fillOutcome, fillAnswer, fillAfter}
+use Rattle.lanes.specs.Lanes.{lane, padding, steps, filled, streamTests}
+use Rattle.streams.specs.Streams.{fillOutcome, fillAnswer, fillAfter}
 use Rattle.streams.specs.declared.answers.Filled.{Filled}
 use Rattle.streams.specs.declared.answers.Filled.the-variants as Filled
-use Rattle.streams.proofs.LaneLaws.{fill-open, fill-least, filled-outcome, outcomeOf, stream-plain}
+use Rattle.lanes.proofs.LaneLaws.{stream-plain}
+use Rattle.streams.proofs.OpenLaws.{fill-open, fill-least, filled-outcome, outcomeOf}
 
 module _ (w : ℕ) (bs : List ℕ) (o len c f d e : ℕ) where
   -- two buffers, or the lesser of them

@@ -1,7 +1,4 @@
-pub mod ShapeLaws
-pub mod LaneLaws
-pub mod WriteLaws
-pub mod TurnLaws
+pub mod OpenLaws
 pub mod FillLaws
 pub mod Stepping
 pub mod Viewed

@@ -13,8 +13,9 @@ use Rattle.codes.specs.declared.refusals.Outcome.{Outcome}
 use Rattle.codes.specs.declared.refusals.Outcome.the-variants.{Done}
 use Rattle.codes.proofs.TabLaws.{length-tab, getD-tab, tab-ext}
 use Rattle.codes.proofs.OutcomeLaws.{first-both}
-use Rattle.streams.specs.Streams.{lane, steps, laneChar, lanes, filled, badStep, streamTests, roomTests, fillOutcome, fillAfter, stepOutcome, stepLanes}
-use Rattle.streams.proofs.ShapeLaws.{none-of-one}
+use Rattle.lanes.specs.Lanes.{lane, steps, laneChar, lanes, filled, streamTests}
+use Rattle.streams.specs.Streams.{badStep, roomTests, fillOutcome, fillAfter, stepOutcome, stepLanes}
+use Rattle.lanes.proofs.ShapeLaws.{none-of-one}
 
 -- eight entries of a table
 pub eight : (f : ℕ → ℕ) (m i : ℕ) (rest : List ℕ) → i < m → tab 8 (λ l. f (8 * i + l)) ≡ take 8 (drop (8 * i) (tab (8 * m) f ++ rest))

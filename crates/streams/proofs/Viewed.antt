@@ -11,7 +11,8 @@ use Rattle.codes.specs.declared.refusals.Outcome.the-variants.{Done}
 use Rattle.codes.proofs.CharLaws.{length-chars}
 use Rattle.views.specs.Views.{viewTests}
 use Rattle.codes.proofs.OutcomeLaws.{first-done}
-use Rattle.streams.specs.Streams.{lane, padding, steps, badShape, badDelays, badStep, roomTests, lanes, filled, fillOutcome, fillAnswer, fillAfter, stepOutcome, stepLanes}
+use Rattle.lanes.specs.Lanes.{lane, padding, steps, badShape, badDelays, lanes, filled}
+use Rattle.streams.specs.Streams.{badStep, roomTests, fillOutcome, fillAnswer, fillAfter, stepOutcome, stepLanes}
 
 module _ (w : ℕ) (xs : List ℕ) (p m : ℕ) (bs : List ℕ) (o len : ℕ) (same : chars w xs p m ≡ chars w bs o len) where
   pub same-length : m ≡ len

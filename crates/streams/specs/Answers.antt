@@ -1,15 +1,12 @@
 -- What each answer of this crate says: its number, and its other numbers.
 -- Assumes nothing.
-use mathlib.Core.Path.{_≡_}
 use Prim.Native.Nat.{ℕ}
 use Rattle.codes.specs.Refusals.{Answer, answer}
 use Rattle.codes.specs.declared.refusals.Outcome.the-variants.{Done, Refused}
-use Rattle.streams.specs.Streams.{lane, padding, steps}
 use Rattle.streams.specs.declared.answers.Shape.{Shape}
 use Rattle.streams.specs.declared.answers.Shape.the-variants as Shape
 use Rattle.streams.specs.declared.answers.Filled.{Filled}
 use Rattle.streams.specs.declared.answers.Filled.the-variants as Filled
-use Rattle.streams.specs.declared.inner.shapes.Plan.{Plan}
 
 -- lane length, padding and steps
 abbrev pub shapeSays : Shape → Answer (ℕ × ℕ × ℕ)
@@ -20,9 +17,3 @@ shapeSays (Shape.Refused r) = answer (Refused r) (0, 0, 0) (0, 0, 0)
 abbrev pub filledSays : Filled → Answer (ℕ × ℕ)
 filledSays (Filled.Is steps padding) = answer Done (steps, padding .0) (0, 0)
 filledSays (Filled.Refused r) = answer (Refused r) (0, 0) (0, 0)
-
--- the numbers of a stream
-pub record Planned (w len c f : ℕ) (p : Plan) : Type 0 where
-  pub lane : p .lane ≡ lane w len c f
-  pub padding : p .padding ≡ padding w len c f
-  pub steps : p .steps ≡ steps w len c f

@@ -1,71 +1,18 @@
--- Lane streams: eight lanes over a list of characters, with delays; what each call answers and writes.
+-- Lane streams: what each call answers and writes, on a view of bytes bs, offset o and length len.
 -- Assumes nothing.
-use mathlib.Core.Bool.{_||_}
 use mathlib.Core.List.{List, [], _∷_, _++_}
-use Prim.Native.Nat.{ℕ, suc, _+_, _-_, _*_, _/_, _%_, _^_}
-use lib.Dec.{ltb, leb}
-use lib.ListN.{length, getD, drop, replicate}
-use Rattle.codes.specs.Codes.{per, pick, tab, chars}
+use Prim.Native.Nat.{ℕ, _*_}
+use lib.Dec.{leb}
+use lib.ListN.{replicate}
+use Rattle.codes.specs.Codes.{chars}
 use Rattle.codes.specs.Refusals.{Test, Answer, answer, first, ifDone, noRoom}
 use Rattle.codes.specs.declared.refusals.Outcome.{Outcome}
 use Rattle.codes.specs.declared.refusals.Refusal.the-variants.{BadStream}
-use Rattle.views.specs.Views.{viewTests}
-
--- the least multiple of m at or above n
-abbrev pub multipleAbove : ℕ → ℕ → ℕ
-multipleAbove m n = (n + (m - 1)) / m * m
-
--- s = length − c + 1, or 0 if length < c
-abbrev pub starts : ℕ → ℕ → ℕ
-starts len c = suc len - c
-
--- n, the least multiple of f * C8 at or above ceil(s / 8)
-unfoldable pub lane : ℕ → ℕ → ℕ → ℕ → ℕ
-lane w len c f = multipleAbove (f * per w) ((starts len c + 7) / 8)
-
--- padding = 8 n − s
-unfoldable pub padding : ℕ → ℕ → ℕ → ℕ → ℕ
-unfolding lane
-padding w len c f = 8 * lane w len c f - starts len c
-
--- n + c − 1 steps if length ≥ c, else none
-unfoldable pub steps : ℕ → ℕ → ℕ → ℕ → ℕ
-unfolding lane
-steps w len c f = pick (ltb len c) 0 (lane w len c f + c - 1)
-
--- context c from 1 to 2^31, factor 1 or 2
-abbrev pub badShape : ℕ → ℕ → Test
-badShape c f = (ltb c 1 || ltb (2 ^ 31) c || ltb f 1 || ltb 2 f, BadStream)
-
--- delays 0 to 2^31, the first at most the second
-abbrev pub badDelays : ℕ → ℕ → Test
-badDelays d e = (ltb (2 ^ 31) d || ltb (2 ^ 31) e || ltb e d, BadStream)
-
--- a step number at or past the steps
-abbrev pub badStep : ℕ → ℕ → Test
-badStep n j = (leb n j, BadStream)
-
--- step j gives lane l the character at l n + j, or 0 from the end on; a delay d gives the one at l n + j − d, or 0 if j < d
-abbrev pub laneChar : List ℕ → ℕ → ℕ → ℕ → ℕ → ℕ
-laneChar cs n d j l = pick (ltb j d) 0 (getD cs (l * n + (j - d)) 0)
-
--- the eight lanes of a step
-unfoldable pub lanes : List ℕ → ℕ → ℕ → ℕ → List ℕ
-lanes cs n d j = tab 8 (laneChar cs n d j)
-
--- filling writes step j, lane l to entry 8 j + l; later entries stay
-unfoldable pub filled : List ℕ → ℕ → ℕ → ℕ → List ℕ → List ℕ
-filled cs n d count out = tab (8 * count) (λ e. laneChar cs n d (e / 8) (e % 8)) ++ drop (8 * count) out
-
--- ---- the calls on a view of bytes bs, offset o and length len
+use Rattle.lanes.specs.Lanes.{lane, padding, steps, badShape, lanes, filled, streamTests}
 
 -- lane length, padding and steps
 unfoldable pub shaped : ℕ → ℕ → ℕ → ℕ → Answer (ℕ × ℕ × ℕ)
 shaped w len c f = answer (first (badShape c f ∷ [])) (lane w len c f, padding w len c f, steps w len c f) (0, 0, 0)
-
--- the refusals of a stream with delays d and e
-abbrev pub streamTests : ℕ → List ℕ → ℕ → ℕ → ℕ → ℕ → ℕ → ℕ → List Test
-streamTests w bs o len c f d e = viewTests w (length bs) o len ++ badShape c f ∷ badDelays d e ∷ []
 
 -- an output buffer shorter than the entries
 abbrev pub roomTests : ℕ → List ℕ → List Test
@@ -83,6 +30,10 @@ fillAnswer w bs o len c f d e ms = answer (fillOutcome w bs o len c f d e ms) (s
 -- what stands in the buffer of one delay after it
 unfoldable pub fillAfter : ℕ → List ℕ → ℕ → ℕ → ℕ → ℕ → ℕ → Outcome → List ℕ → List ℕ
 fillAfter w bs o len c f d outcome out = ifDone outcome (filled (chars w bs o len) (lane w len c f) d (steps w len c f) out) out
+
+-- a step number at or past the steps
+abbrev pub badStep : ℕ → ℕ → Test
+badStep n j = (leb n j, BadStream)
 
 -- stepping: the step's lanes, zeros where it is refused
 unfoldable pub stepOutcome : ℕ → List ℕ → ℕ → ℕ → ℕ → ℕ → ℕ → ℕ → ℕ → Outcome

@@ -12,7 +12,8 @@ use Rattle.codes.specs.declared.refusals.Refusal.the-variants.{BadWord, BadView
 use Rattle.forms.specs.Forms.{stored}
 use Rattle.forms.specs.Numbers.{spelt}
 use Rattle.stores.specs.Stores.{span, pushSeq}
-use Rattle.streams.specs.Streams.{lane, padding, steps, shaped}
+use Rattle.lanes.specs.Lanes.{lane, padding, steps}
+use Rattle.streams.specs.Streams.{shaped}
 use Rattle.order.specs.Order.{compare, common, orderNumber}
 use Rattle.views.specs.Views.{viewTests}
 

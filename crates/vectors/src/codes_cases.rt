@@ -1,20 +1,10 @@
-// Letters and words. A word of 64 bits is given as two numbers, its high and its low 32 bits.
+// Letters and words.
+use crate::given::chars;
+use crate::given::word;
 use crate::print;
 use codes::letters;
 use codes::units::Chars;
 use codes::words;
-
-// The word that the line gives at `at` and behind it.
-fn word(line: &[u64; 512], at: usize) -> u64 {
-    if 510 < at {
-        return 0;
-    }
-    line[at] % 0x1_0000_0000 * 0x1_0000_0000 + line[at + 1] % 0x1_0000_0000
-}
-
-fn chars(n: u64) -> Chars {
-    Chars::new(n as usize)
-}
 
 pub(crate) fn run(call: u64, line: &[u64; 512], text: &[u8], out: &mut [u8]) {
     match call {
@@ -22,24 +12,7 @@ pub(crate) fn run(call: u64, line: &[u64; 512], text: &[u8], out: &mut [u8]) {
         11 => code((line[1] % 256) as u8),
         20 => print::word(words::pack_kmer_lossy(text)),
         21 => print::word128(words::pack_kmer_u128_lossy(text)),
-        22 => {
-            print::outcome(words::unpack_kmer(word(line, 2), chars(line[1]), out));
-            print::bytes(out);
-        }
-        23 => {
-            print::outcome(words::unpack_kmer_u128(
-                word(line, 2),
-                word(line, 4),
-                chars(line[1]),
-                out,
-            ));
-            print::bytes(out);
-        }
-        24 => print::word(words::revcomp_u64(word(line, 2), chars(line[1]))),
-        25 => print::word128(words::revcomp_u128(word(line, 2), word(line, 4), chars(line[1]))),
-        26 => print::word(words::rev_u64(word(line, 2), chars(line[1]))),
-        27 => print::word128(words::rev_u128(word(line, 2), word(line, 4), chars(line[1]))),
-        _ => {}
+        _ => of_words(call, chars(line, 1), word(line, 2), word(line, 4), out),
     }
 }
 
@@ -55,4 +28,23 @@ fn letter(b: u8) {
 fn code(c: u8) {
     print::symbol(letters::unpack_base(c));
     print::symbol(letters::complement_base(c));
+}
+
+// The calls on a word of k characters, or on the two words x and y as one.
+fn of_words(call: u64, k: Chars, x: u64, y: u64, out: &mut [u8]) {
+    match call {
+        22 => {
+            print::outcome(words::unpack_kmer(x, k, out));
+            print::bytes(out);
+        }
+        23 => {
+            print::outcome(words::unpack_kmer_u128(x, y, k, out));
+            print::bytes(out);
+        }
+        24 => print::word(words::revcomp_u64(x, k)),
+        25 => print::word128(words::revcomp_u128(x, y, k)),
+        26 => print::word(words::rev_u64(x, k)),
+        27 => print::word128(words::rev_u128(x, y, k)),
+        _ => {}
+    }
 }

@@ -31,14 +31,7 @@ pub(crate) fn run_all() {
     let mut first = [0u8; 512];
     let mut second = [0u8; 512];
     let mut out = [0u8; 512];
-    let mut scan = Scan {
-        count: 0,
-        value: 0,
-        open: false,
-        first: 0,
-        second: 0,
-        out: 0,
-    };
+    let mut scan = start(0, 0, 0);
     let mut chunk = [0u8; 4096];
     let mut turns = u64::MAX;
     while 0 < turns {
@@ -59,14 +52,14 @@ pub(crate) fn run_all() {
 }
 
 fn feed(
-    start: Scan,
+    from: Scan,
     chunk: &[u8],
     line: &mut [u64; 512],
-    first: &mut [u8],
-    second: &mut [u8],
-    out: &mut [u8],
+    first: &mut [u8; 512],
+    second: &mut [u8; 512],
+    out: &mut [u8; 512],
 ) -> Scan {
-    let mut scan = start;
+    let mut scan = from;
     for i in 0..chunk.len() {
         scan = take(scan, chunk[i], line, first, second, out);
     }
@@ -78,20 +71,20 @@ fn take(
     scan: Scan,
     b: u8,
     line: &mut [u64; 512],
-    first: &mut [u8],
-    second: &mut [u8],
-    out: &mut [u8],
+    first: &mut [u8; 512],
+    second: &mut [u8; 512],
+    out: &mut [u8; 512],
 ) -> Scan {
     if b'0' <= b {
         if b <= b'9' {
             return digit(scan, b - b'0');
         }
     }
-    let ended = keep(scan, line);
+    let next = keep(scan, line);
     if b == b'\n' {
-        return run(ended, line, first, second, out);
+        return run(next, line, first, second, out);
     }
-    ended
+    next
 }
 
 // Numbers stay below 2^32.
@@ -131,34 +124,50 @@ fn keep(scan: Scan, line: &mut [u64; 512]) -> Scan {
 fn run(
     scan: Scan,
     line: &mut [u64; 512],
-    first: &mut [u8],
-    second: &mut [u8],
-    out: &mut [u8],
+    first: &mut [u8; 512],
+    second: &mut [u8; 512],
+    out: &mut [u8; 512],
 ) -> Scan {
     let call = line[0];
-    let n = scan.count;
-    let mut next = Scan {
+    if call == 1 {
+        return start(fill(line, scan.count, first), scan.second, scan.out);
+    }
+    if call == 2 {
+        return start(scan.first, fill(line, scan.count, second), scan.out);
+    }
+    if call == 3 {
+        return start(scan.first, scan.second, repeat(line[1], line[2], out));
+    }
+    replay(call, line, scan, first, second, out);
+    start(scan.first, scan.second, scan.out)
+}
+
+// Where the next line starts.
+fn start(first: usize, second: usize, out: usize) -> Scan {
+    Scan {
         count: 0,
         value: 0,
         open: false,
-        first: scan.first,
-        second: scan.second,
-        out: scan.out,
-    };
-    if call == 1 {
-        next.first = fill(line, n, first);
-    } else if call == 2 {
-        next.second = fill(line, n, second);
-    } else if call == 3 {
-        next.out = repeat(line[1], line[2], out);
-    } else {
-        let a = at_most(scan.first, first.len());
-        let b = at_most(scan.second, second.len());
-        let o = at_most(scan.out, out.len());
-        run_case(call, line, &first[..a], &second[..b], &mut out[..o]);
-        print::end();
+        first,
+        second,
+        out,
     }
-    next
+}
+
+// A case, on the parts of the buffers that are in use.
+fn replay<'a>(
+    call: u64,
+    line: &[u64; 512],
+    scan: Scan,
+    first: &'a [u8],
+    second: &'a [u8],
+    out: &mut [u8],
+) {
+    let a = at_most(scan.first, first.len());
+    let b = at_most(scan.second, second.len());
+    let o = at_most(scan.out, out.len());
+    run_case(call, line, &first[..a], &second[..b], &mut out[..o]);
+    print::end();
 }
 
 fn run_case<'a>(call: u64, line: &[u64; 512], first: &'a [u8], second: &'a [u8], out: &mut [u8]) {
@@ -176,16 +185,16 @@ fn run_case<'a>(call: u64, line: &[u64; 512], first: &'a [u8], second: &'a [u8],
 }
 
 // The line's numbers behind its first.
-fn fill(line: &[u64; 512], n: usize, buffer: &mut [u8]) -> usize {
-    let last = at_most(at_most(n, 512), buffer.len());
+fn fill(line: &[u64; 512], n: usize, buffer: &mut [u8; 512]) -> usize {
+    let last = at_most(n, 512);
     for i in 1..last {
         buffer[i - 1] = (line[i] % 256) as u8;
     }
     if last == 0 { 0 } else { last - 1 }
 }
 
-fn repeat(n: u64, b: u64, buffer: &mut [u8]) -> usize {
-    let size = at_most(n as usize, buffer.len());
+fn repeat(n: u64, b: u64, buffer: &mut [u8; 512]) -> usize {
+    let size = at_most(n as usize, 512);
     for i in 0..size {
         buffer[i] = (b % 256) as u8;
     }

@@ -11,7 +11,7 @@ use Rattle.codes.specs.declared.refusals.Outcome.{Outcome}
 use Rattle.codes.specs.declared.refusals.Outcome.the-variants.{Done}
 use Rattle.codes.proofs.CharLaws.{chars-fit}
 use Rattle.codes.proofs.TabLaws.{tab-ext, Below-getD}
-use Rattle.streams.specs.Streams.{lane, steps}
+use Rattle.lanes.specs.Lanes.{lane, steps}
 use Rattle.windows.specs.Windows.{laneWindow, windowsFilled, Running, windowTests, windowsOutcome, windowsAfter, runOutcome, runAnswers, runState}
 use Rattle.windows.proofs.RunLaws.{Windowed, window-open, run-right, run-done}
 use Rattle.windows.proofs.TotalLaws.{stateAt, state-first, state-next, state-good, answers-at}

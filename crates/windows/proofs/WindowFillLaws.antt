@@ -16,12 +16,12 @@ use Rattle.codes.specs.declared.units.Chars.{Chars}
 use Rattle.codes.proofs.RefusalLaws.{answer-outcome}
 use Rattle.codes.proofs.OutcomeLaws.{first-both}
 use Rattle.streams.specs.Answers.{filledSays}
-use Rattle.streams.specs.Streams.{lane, padding, steps}
+use Rattle.lanes.specs.Lanes.{lane, padding, steps}
 use Rattle.windows.specs.Windows.{badSkip, windowTests, windowsFilled, windowsOutcome, windowsAnswer, windowsAfter}
 use Rattle.streams.specs.declared.answers.Filled.{Filled}
 use Rattle.streams.specs.declared.answers.Filled.the-variants as Filled
-use Rattle.streams.proofs.LaneLaws.{outcomeOf}
-use Rattle.streams.proofs.ShapeLaws.{not-first}
+use Rattle.streams.proofs.OpenLaws.{outcomeOf}
+use Rattle.lanes.proofs.ShapeLaws.{not-first}
 
 module _ (bs : List ℕ) (o len c k skip : ℕ) where
   pub windows-open : (m : ℕ) → windowsOutcome bs o len c k skip m ≡ Done

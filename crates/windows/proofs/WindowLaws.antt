@@ -17,8 +17,8 @@ use Rattle.codes.proofs.TabLaws.{getD-tab, tab-ext}
 use Rattle.codes.proofs.WidthLaws.{below-or}
 use Rattle.windows.specs.Windows.{laneWindow}
 use Rattle.windows.specs.Marks.{untilAt, windowEntry, shown, TurnsMarks}
-use Rattle.streams.specs.Written.{Written, Holds}
-use Rattle.streams.proofs.WriteLaws.{written-none, written-join, written-ext}
+use Rattle.lanes.specs.Written.{Written, Holds}
+use Rattle.lanes.proofs.WriteLaws.{written-none, written-join, written-ext}
 
 pub or-false : (b : Bool) → (b || false) ≡ b
 or-false true = refl

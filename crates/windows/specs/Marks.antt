@@ -7,7 +7,7 @@ use lib.Dec.{eqb, ltb}
 use lib.ListN.{getD}
 use Rattle.codes.specs.Codes.{pick, tab}
 use Rattle.windows.specs.Windows.{laneWindow}
-use Rattle.streams.specs.Written.{Written, Holds}
+use Rattle.lanes.specs.Written.{Written, Holds}
 
 -- by the flags before step j: k past the last set one, or 0
 unfoldable pub untilAt : List ℕ → ℕ → ℕ → ℕ → ℕ → ℕ

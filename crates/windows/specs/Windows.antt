@@ -11,7 +11,8 @@ use Rattle.codes.specs.Windows.{window}
 use Rattle.codes.specs.declared.refusals.Outcome.{Outcome}
 use Rattle.codes.specs.declared.refusals.Refusal.the-variants.{BadStream}
 use Rattle.views.specs.Views.{viewTests}
-use Rattle.streams.specs.Streams.{lane, padding, steps, badShape, badStep, laneChar}
+use Rattle.lanes.specs.Lanes.{lane, padding, steps, badShape, laneChar}
+use Rattle.streams.specs.Streams.{badStep}
 
 -- k from 1 to 96
 abbrev pub badWindow : ℕ → Test

@@ -2,12 +2,41 @@
 use crate::answers::Stepped;
 use crate::answers::SteppedOnce;
 use crate::answers::SteppedTwice;
-use crate::inner::lanes::step_lanes;
 use crate::inner::outcomes::step_outcome;
+use codes::refusals::Outcome;
 use codes::units::Chars;
+use lanes::inner::eight::lanes_at;
+use lanes::inner::shapes::plan_of;
 ghost use mathlib.Core.Path.{_≡_};
 ghost use Rattle.codes.specs.Codes.{IsWidth};
+ghost use Rattle.codes.specs.declared.refusals.Outcome.the-variants.{Done};
 ghost use Rattle.streams.specs.Streams.{stepOutcome, stepLanes};
+
+// The lanes of a step whose outcome is known.
+fn step_lanes(
+    w: usize,
+    bytes: &[u8],
+    offset: Chars,
+    len: Chars,
+    context: Chars,
+    factor: usize,
+    d: Chars,
+    j: usize,
+    outcome: Outcome,
+) -> [u32; 8]
+    requires { ⌜ IsWidth w ⌝ }
+    requires { ⌜ (outcome ≡ Done → stepOutcome w (now bytes) (offset .0) (len .0) (context .0) factor 0 0 j ≡ Done) ⌝ }
+    ensures { λ r. ⌜ r ≡ stepLanes w (now (bytes .entry)) (offset .0) (len .0) (context .0) factor (d .0) j outcome ⌝ }
+{
+    match outcome {
+        Outcome::Refused(_) => [0; 8],
+        Outcome::Done => {
+            let p = plan_of(w, len, context, factor);
+            let n = p.lane;
+            lanes_at(w, bytes, offset.count(), len.count(), n, d.count(), j)
+        }
+    }
+}
 
 pub fn step(
     w: usize,

@@ -5,7 +5,7 @@ ghost use lib.Dec.{eqb};
 ghost use lib.ListN.{length, getD};
 ghost use Rattle.codes.specs.Codes.{pick, tab};
 ghost use Rattle.windows.specs.Marks.{TurnsMarks, shown};
-ghost use Rattle.streams.specs.Written.{Written};
+ghost use Rattle.lanes.specs.Written.{Written};
 
 // The new mark where the low bit of x is set, else the old one.
 fn later(x: u64, stop: usize, old: usize) -> usize

@@ -2,7 +2,7 @@
 use codes::refusals::Outcome;
 use codes::refusals::Refusal;
 use codes::units::Chars;
-use streams::inner::shapes::bad_shape;
+use lanes::inner::shapes::bad_shape;
 use views::inner::parts::view_outcome;
 ghost use mathlib.Core.Path.{_≡_};
 ghost use Rattle.codes.specs.Refusals.{first};

@@ -1,13 +1,11 @@
--- Each index is below the length, and no buffer changes its length. Assumes nothing.
+-- Each index is below the length. Assumes nothing.
 use Prim.Native.Nat.{_≤_, _-_}
-use mathlib.Core.Path.{_≡_, sym}
-use lib.ListN.{length}
 use borrow.Author.Needs.{needs}
 use Rattle.vectors.proofs.lines.feed.Statement.{statement}
 use Rattle.vectors.proofs.lines.feed.Tie as tie
 
 abbrev Inv-loop : tie.InvT-loop
-Inv-loop chunk line₀ first₀ second₀ out₀ scan₀ i₀ i-end line first second out scan i = (i ≤ i-end) × (length first ≡ length first₀) × (length second ≡ length second₀) × (length out ≡ length out₀)
+Inv-loop chunk line₀ first₀ second₀ out₀ scan₀ i₀ i-end line first second out scan i = i ≤ i-end
 
 abbrev μ-loop : tie.MeasureT-loop
 μ-loop chunk line₀ first₀ second₀ out₀ scan₀ i₀ i-end line first second out scan i = i-end - i
@@ -30,15 +28,6 @@ loop-less c = search needs
 loop-again : tie.Need-loop-again Inv-loop μ-loop
 loop-again c = search needs
 
-same-length : tie.Need-same-length Inv-loop μ-loop
-same-length c = search needs
-
-same-length-2 : tie.Need-same-length-2 Inv-loop μ-loop
-same-length-2 c = search needs
-
-same-length-3 : tie.Need-same-length-3 Inv-loop μ-loop
-same-length-3 c = search needs
-
 returns : tie.Need-returns Inv-loop μ-loop
 returns c = search needs
 
@@ -54,7 +43,4 @@ feed-spec =
     add-i
     loop-less
     loop-again
-    same-length
-    same-length-2
-    same-length-3
     returns)

@@ -1,23 +1,17 @@
 -- Each place lies within the line and the buffer. Assumes nothing.
 use Prim.Native.Nat.{_≤_, _-_}
-use native.Mathlib.Omega.{arith}
-use mathlib.Core.Path.{_≡_}
-use lib.ListN.{length}
 use borrow.Author.Needs.{needs}
 use Rattle.vectors.proofs.lines.fill.Statement.{statement}
 use Rattle.vectors.proofs.lines.fill.Tie as tie
 
 abbrev Inv-loop : tie.InvT-loop
-Inv-loop line n buffer₀ last i₀ buffer i = (1 ≤ i) × (length buffer ≡ length buffer₀)
+Inv-loop line n buffer₀ last i₀ buffer i = 1 ≤ i
 
 abbrev μ-loop : tie.MeasureT-loop
 μ-loop line n buffer₀ last i₀ buffer i = last - i
 
 at-most-requires : tie.Need-at-most-requires Inv-loop μ-loop
 at-most-requires c κs = search needs
-
-at-most-requires-2 : tie.Need-at-most-requires-2 Inv-loop μ-loop
-at-most-requires-2 c κs = search needs
 
 loop-holds : tie.Need-loop-holds Inv-loop μ-loop
 loop-holds c = search needs
@@ -34,8 +28,8 @@ cast-buffer c = search needs
 sub-buffer : tie.Need-sub-buffer Inv-loop μ-loop
 sub-buffer c = search needs
 
-slice-write-buffer : tie.Need-slice-write-buffer Inv-loop μ-loop
-slice-write-buffer c = search needs
+element-write-buffer : tie.Need-element-write-buffer Inv-loop μ-loop
+element-write-buffer c = search needs
 
 add-i : tie.Need-add-i Inv-loop μ-loop
 add-i c = search needs
@@ -49,14 +43,8 @@ loop-again c = search needs
 sub-result : tie.Need-sub-result Inv-loop μ-loop
 sub-result c = search needs
 
-same-length : tie.Need-same-length Inv-loop μ-loop
-same-length c = search needs
-
 returns : tie.Need-returns Inv-loop μ-loop
 returns c = search needs
-
-same-length-2 : tie.Need-same-length-2 Inv-loop μ-loop
-same-length-2 c = search needs
 
 returns-2 : tie.Need-returns-2 Inv-loop μ-loop
 returns-2 c = search needs
@@ -68,18 +56,15 @@ fill-spec =
     Inv-loop
     μ-loop
     at-most-requires
-    at-most-requires-2
     loop-holds
     mul-buffer
     element-copy-out-buffer
     cast-buffer
     sub-buffer
-    slice-write-buffer
+    element-write-buffer
     add-i
     loop-less
     loop-again
     sub-result
-    same-length
     returns
-    same-length-2
     returns-2)

@@ -1,14 +1,11 @@
 -- Each place lies within the buffer. Assumes nothing.
 use Prim.Native.Nat.{_≤_, _-_}
-use native.Mathlib.Omega.{arith}
-use mathlib.Core.Path.{_≡_}
-use lib.ListN.{length}
 use borrow.Author.Needs.{needs}
 use Rattle.vectors.proofs.lines.repeat.Statement.{statement}
 use Rattle.vectors.proofs.lines.repeat.Tie as tie
 
 abbrev Inv-loop : tie.InvT-loop
-Inv-loop n b buffer₀ size i₀ buffer i = (i ≤ size) × (length buffer ≡ length buffer₀)
+Inv-loop n b buffer₀ size i₀ buffer i = i ≤ size
 
 abbrev μ-loop : tie.MeasureT-loop
 μ-loop n b buffer₀ size i₀ buffer i = size - i
@@ -22,8 +19,8 @@ loop-holds c = search needs
 cast-buffer : tie.Need-cast-buffer Inv-loop μ-loop
 cast-buffer c = search needs
 
-slice-write-buffer : tie.Need-slice-write-buffer Inv-loop μ-loop
-slice-write-buffer c = search needs
+element-write-buffer : tie.Need-element-write-buffer Inv-loop μ-loop
+element-write-buffer c = search needs
 
 add-i : tie.Need-add-i Inv-loop μ-loop
 add-i c = search needs
@@ -33,9 +30,6 @@ loop-less c = search needs
 
 loop-again : tie.Need-loop-again Inv-loop μ-loop
 loop-again c = search needs
-
-same-length : tie.Need-same-length Inv-loop μ-loop
-same-length c = search needs
 
 returns : tie.Need-returns Inv-loop μ-loop
 returns c = search needs
@@ -49,9 +43,8 @@ repeat-spec =
     at-most-requires
     loop-holds
     cast-buffer
-    slice-write-buffer
+    element-write-buffer
     add-i
     loop-less
     loop-again
-    same-length
     returns)

@@ -1,5 +1,4 @@
--- The turns count down, and no buffer changes its length. Assumes nothing.
-use Prim.Native.Nat.{ℕ}
+-- The turns count down. Assumes nothing.
 use mathlib.Core.Path.{_≡_}
 use lib.ListN.{length}
 use borrow.Author.Needs.{needs}
@@ -7,10 +6,13 @@ use Rattle.vectors.proofs.lines.run_all.Statement.{statement}
 use Rattle.vectors.proofs.lines.run_all.Tie as tie
 
 abbrev Inv-loop : tie.InvT-loop
-Inv-loop line₀ first₀ second₀ out₀ scan₀ chunk₀ turns₀ line first second out scan chunk turns = (512 ≡ length first) × (512 ≡ length second) × (512 ≡ length out) × (4096 ≡ length chunk)
+Inv-loop line₀ first₀ second₀ out₀ scan₀ chunk₀ turns₀ line first second out scan chunk turns = 4096 ≡ length chunk
 
 abbrev μ-loop : tie.MeasureT-loop
 μ-loop line₀ first₀ second₀ out₀ scan₀ chunk₀ turns₀ line first second out scan chunk turns = turns
+
+start-requires : tie.Need-start-requires Inv-loop μ-loop
+start-requires c κs = search needs
 
 loop-holds : tie.Need-loop-holds Inv-loop μ-loop
 loop-holds c = search needs
@@ -36,15 +38,6 @@ array-share-prefix-chunk c = search needs
 slice-aggregate-feed : tie.Need-slice-aggregate-feed Inv-loop μ-loop
 slice-aggregate-feed c = search needs
 
-slice-aggregate-feed-2 : tie.Need-slice-aggregate-feed-2 Inv-loop μ-loop
-slice-aggregate-feed-2 c = search needs
-
-slice-aggregate-feed-3 : tie.Need-slice-aggregate-feed-3 Inv-loop μ-loop
-slice-aggregate-feed-3 c = search needs
-
-slice-aggregate-feed-4 : tie.Need-slice-aggregate-feed-4 Inv-loop μ-loop
-slice-aggregate-feed-4 c = search needs
-
 feed-requires : tie.Need-feed-requires Inv-loop μ-loop
 feed-requires c κs = search needs
 
@@ -66,6 +59,7 @@ run-all-spec =
     (tie.spec
     Inv-loop
     μ-loop
+    start-requires
     loop-holds
     slice-aggregate-read
     read-requires
@@ -74,9 +68,6 @@ run-all-spec =
     returns
     array-share-prefix-chunk
     slice-aggregate-feed
-    slice-aggregate-feed-2
-    slice-aggregate-feed-3
-    slice-aggregate-feed-4
     feed-requires
     sub-turns
     loop-less

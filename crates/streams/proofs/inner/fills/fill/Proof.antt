@@ -5,7 +5,8 @@ use Prim.Native.Nat.{ℕ}
 use lib.ListN.{length}
 use Rattle.codes.specs.Codes.{chars}
 use Rattle.streams.specs.Answers.{filledSays}
-use Rattle.streams.specs.Streams.{lane, steps, filled, fillAnswer}
+use Rattle.lanes.specs.Lanes.{lane, steps, filled}
+use Rattle.streams.specs.Streams.{fillAnswer}
 use Rattle.streams.proofs.FillLaws.{says-done, says-refused, after-done, after-refused, fill-ready}
 use borrow.Author.Needs.{needs}
 use Rattle.streams.proofs.inner.fills.fill.Statement.{statement}

@@ -9,9 +9,10 @@ use Rattle.codes.specs.Refusals.{first, noRoom}
 use Rattle.codes.specs.declared.refusals.Outcome.the-variants.{Done}
 use Rattle.codes.specs.declared.refusals.Refusal.the-variants.{NoRoom}
 use Rattle.codes.proofs.OutcomeLaws.{first-refused, answer-done, answer-refused}
-use Rattle.streams.specs.Streams.{padding, steps, streamTests, fillOutcome, fillAnswer}
-use Rattle.streams.proofs.ShapeLaws.{first-of-one, none-of-one}
-use Rattle.streams.proofs.LaneLaws.{Open, stream-open, stream-sizes}
+use Rattle.lanes.specs.Lanes.{padding, steps, streamTests}
+use Rattle.streams.specs.Streams.{fillOutcome, fillAnswer}
+use Rattle.lanes.proofs.ShapeLaws.{first-of-one, none-of-one}
+use Rattle.lanes.proofs.LaneLaws.{Open, stream-open, stream-sizes}
 use borrow.Author.Needs.{needs}
 use Rattle.streams.proofs.inner.outcomes.fill_answer.Statement.{statement}
 use Rattle.streams.proofs.inner.outcomes.fill_answer.Tie as tie

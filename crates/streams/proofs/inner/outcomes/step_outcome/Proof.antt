@@ -6,9 +6,10 @@ use borrow.Author.Tests.{le-leb, lt-leb}
 use Rattle.codes.specs.Refusals.{first}
 use Rattle.codes.specs.declared.refusals.Outcome.the-variants.{Done}
 use Rattle.codes.proofs.OutcomeLaws.{first-refused}
-use Rattle.streams.specs.Streams.{steps, badStep, streamTests, stepOutcome}
-use Rattle.streams.proofs.ShapeLaws.{first-of-one, none-of-one}
-use Rattle.streams.proofs.LaneLaws.{Open, stream-open}
+use Rattle.lanes.specs.Lanes.{steps, streamTests}
+use Rattle.streams.specs.Streams.{badStep, stepOutcome}
+use Rattle.lanes.proofs.ShapeLaws.{first-of-one, none-of-one}
+use Rattle.lanes.proofs.LaneLaws.{Open, stream-open}
 use borrow.Author.Needs.{needs}
 use Rattle.streams.proofs.inner.outcomes.step_outcome.Statement.{statement}
 use Rattle.streams.proofs.inner.outcomes.step_outcome.Tie as tie

@@ -3,7 +3,8 @@ use mathlib.Core.List.{[], _∷_}
 use mathlib.Core.Path.{sym, _∙_}
 use Rattle.codes.specs.Refusals.{first}
 use Rattle.codes.proofs.OutcomeLaws.{answer-done}
-use Rattle.streams.specs.Streams.{lane, padding, steps, badShape, shaped}
+use Rattle.lanes.specs.Lanes.{lane, padding, steps, badShape}
+use Rattle.streams.specs.Streams.{shaped}
 use borrow.Author.Needs.{needs}
 use Rattle.streams.proofs.inner.shapes.shape.Statement.{statement}
 use Rattle.streams.proofs.inner.shapes.shape.Tie as tie

@@ -1,6 +1,6 @@
 -- The lanes are those of the outcome. Assumes nothing.
 use mathlib.Core.Path.{sym, _∙_}
-use Rattle.streams.proofs.LaneLaws.{step-plain}
+use Rattle.streams.proofs.OpenLaws.{step-plain}
 use borrow.Author.Needs.{needs}
 use Rattle.streams.proofs.inner.steps.step_delayed_2.Statement.{statement}
 use Rattle.streams.proofs.inner.steps.step_delayed_2.Tie as tie

@@ -3,8 +3,8 @@ use mathlib.Core.Path.{_≡_, refl, subst}
 use Prim.Native.Nat.{ℕ, _+_, _-_, _≤_}
 use native.Mathlib.Omega.{arith}
 use lib.ListN.{getD}
-use Rattle.streams.specs.Written.{Written}
-use Rattle.streams.proofs.WriteLaws.{written-none, written-more, written-all}
+use Rattle.lanes.specs.Written.{Written}
+use Rattle.lanes.proofs.WriteLaws.{written-none, written-more, written-all}
 use borrow.Author.Needs.{needs}
 use Rattle.windows.proofs.inner.counts.counts_after.Statement.{statement}
 use Rattle.windows.proofs.inner.counts.counts_after.Tie as tie

@@ -5,8 +5,8 @@ use native.Mathlib.Nat.{add-assoc, add-sub-cancel-left}
 use native.Mathlib.Omega.{arith}
 use lib.ListN.{getD, set}
 use Rattle.windows.specs.Marks.{shown}
-use Rattle.streams.specs.Written.{Written}
-use Rattle.streams.proofs.WriteLaws.{written-none, written-more}
+use Rattle.lanes.specs.Written.{Written}
+use Rattle.lanes.proofs.WriteLaws.{written-none, written-more}
 use borrow.Author.Needs.{needs}
 use Rattle.windows.proofs.inner.marks.write_marks.Statement.{statement}
 use Rattle.windows.proofs.inner.marks.write_marks.Tie as tie

@@ -4,9 +4,9 @@ use mathlib.Core.Path.{sym, _∙_}
 use lib.ListN.{length}
 use Rattle.views.specs.Views.{viewTests}
 use Rattle.codes.proofs.OutcomeLaws.{first-refused}
-use Rattle.streams.specs.Streams.{badShape}
+use Rattle.lanes.specs.Lanes.{badShape}
 use Rattle.windows.specs.Windows.{badWindow}
-use Rattle.streams.proofs.ShapeLaws.{first-of-two, second-of-two, none-of-two}
+use Rattle.lanes.proofs.ShapeLaws.{first-of-two, second-of-two, none-of-two}
 use borrow.Author.Needs.{needs}
 use Rattle.windows.proofs.inner.outcomes.window_outcome.Statement.{statement}
 use Rattle.windows.proofs.inner.outcomes.window_outcome.Tie as tie

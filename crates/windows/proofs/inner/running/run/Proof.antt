@@ -11,9 +11,9 @@ use Rattle.codes.specs.declared.refusals.Refusal.the-variants.{BadStream}
 use Rattle.codes.proofs.CharLaws.{chars-fit}
 use Rattle.codes.proofs.WidthLaws.{width-1}
 use Rattle.windows.specs.Answers.{running}
-use Rattle.streams.specs.Streams.{lane, lanes, steps}
+use Rattle.lanes.specs.Lanes.{lane, lanes, steps}
 use Rattle.windows.specs.Windows.{anyLane}
-use Rattle.streams.proofs.LaneLaws.{Sized, stream-sizes}
+use Rattle.lanes.proofs.LaneLaws.{Sized, stream-sizes}
 use Rattle.windows.proofs.RunLaws.{Windowed, window-open, badLane, lanes-small, bad-is, answers-are, state-is, sound, run-refused, run-done, run-past, run-bad, run-right}
 use borrow.Author.Needs.{needs}
 use Rattle.windows.proofs.inner.running.run.Statement.{statement}

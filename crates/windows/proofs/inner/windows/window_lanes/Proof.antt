@@ -8,9 +8,9 @@ use Rattle.codes.specs.Codes.{chars, tab}
 use Rattle.codes.proofs.WidthLaws.{width-1}
 use Rattle.windows.specs.Marks.{untilAt, windowEntry}
 use Rattle.windows.specs.Windows.{windowsFilled}
-use Rattle.streams.specs.Written.{Written}
+use Rattle.lanes.specs.Written.{Written}
 use Rattle.windows.proofs.WindowLaws.{marks-none}
-use Rattle.streams.proofs.WriteLaws.{written-none, written-join, written-is, min-some}
+use Rattle.lanes.proofs.WriteLaws.{written-none, written-join, written-is, min-some}
 use borrow.Author.Needs.{needs}
 use Rattle.windows.proofs.inner.windows.window_lanes.Statement.{statement}
 use Rattle.windows.proofs.inner.windows.window_lanes.Tie as tie

@@ -3,7 +3,7 @@ use mathlib.Core.Path.{_∙_}
 use native.Mathlib.Omega.{arith}
 use lib.ListN.{length}
 use Rattle.codes.proofs.WidthLaws.{width-1}
-use Rattle.streams.proofs.LaneLaws.{Sized, stream-sizes}
+use Rattle.lanes.proofs.LaneLaws.{Sized, stream-sizes}
 use Rattle.windows.proofs.RunLaws.{Windowed, window-open}
 use borrow.Author.Needs.{needs}
 use Rattle.windows.proofs.inner.windows.window_one.Statement.{statement}

@@ -10,11 +10,11 @@ use Rattle.codes.specs.declared.refusals.Outcome.the-variants.{Done}
 use Rattle.codes.specs.declared.refusals.Refusal.the-variants.{BadStream, NoRoom}
 use Rattle.codes.proofs.WidthLaws.{width-1}
 use Rattle.codes.proofs.OutcomeLaws.{first-refused, answer-done, answer-refused}
-use Rattle.streams.specs.Streams.{padding, steps}
+use Rattle.lanes.specs.Lanes.{padding, steps}
 use Rattle.windows.specs.Windows.{badSkip, windowTests, windowsOutcome, windowsAnswer}
-use Rattle.streams.proofs.LaneLaws.{stream-sizes}
+use Rattle.lanes.proofs.LaneLaws.{stream-sizes}
 use Rattle.windows.proofs.RunLaws.{Windowed, window-open}
-use Rattle.streams.proofs.ShapeLaws.{first-of-two, second-of-two, none-of-two}
+use Rattle.lanes.proofs.ShapeLaws.{first-of-two, second-of-two, none-of-two}
 use borrow.Author.Needs.{needs}
 use Rattle.windows.proofs.inner.windows.windows_answer.Statement.{statement}
 use Rattle.windows.proofs.inner.windows.windows_answer.Tie as tie

@@ -1,0 +1,4 @@
+pub mod ShapeLaws
+pub mod LaneLaws
+pub mod WriteLaws
+pub mod TurnLaws

@@ -1,0 +1,66 @@
+-- The view's tests, and then the stream's. Assumes nothing.
+use mathlib.Core.List.{[], _∷_}
+use mathlib.Core.Path.{sym, _∙_}
+use lib.ListN.{length}
+use Rattle.views.specs.Views.{viewTests}
+use Rattle.codes.proofs.OutcomeLaws.{first-refused}
+use Rattle.lanes.specs.Lanes.{badShape, badDelays}
+use Rattle.lanes.proofs.ShapeLaws.{first-of-two, second-of-two, none-of-two}
+use borrow.Author.Needs.{needs}
+use Rattle.lanes.proofs.inner.outcomes.stream_outcome.Statement.{statement}
+use Rattle.lanes.proofs.inner.outcomes.stream_outcome.Tie as tie
+
+view-outcome-requires : tie.Need-view-outcome-requires
+view-outcome-requires c κs = search needs
+
+enum-known-refusal : tie.Need-enum-known-refusal
+enum-known-refusal c = search needs
+
+enum-told : tie.Need-enum-told
+enum-told c = search needs
+
+bad-shape-requires : tie.Need-bad-shape-requires
+bad-shape-requires c κs = search needs
+
+returns : tie.Need-returns
+returns c =
+    let s = c .before .before in
+    let a = s .before .before .before .before .args in
+    first-of-two (viewTests (a .w) (length (a .bytes .now)) (a .offset .0) (a .len .0)) (sym (s .before .before .view-outcome .ensures) ∙ s .enum-told .given .1) (badShape (a .context .0) (a .factor)) (badDelays (a .d .0) (a .e .0)) (sym (c .before .bad-shape .ensures) ∙ c .if1 .taken)
+
+bad-delays-requires : tie.Need-bad-delays-requires
+bad-delays-requires c κs = search needs
+
+returns-2 : tie.Need-returns-2
+returns-2 c =
+    let t = c .before .before in
+    let s = t .before .before in
+    let a = s .before .before .before .before .args in
+    second-of-two (viewTests (a .w) (length (a .bytes .now)) (a .offset .0) (a .len .0)) (sym (s .before .before .view-outcome .ensures) ∙ s .enum-told .given .1) (badShape (a .context .0) (a .factor)) (badDelays (a .d .0) (a .e .0)) (sym (t .before .bad-shape .ensures) ∙ t .if1 .left) (sym (c .before .bad-delays .ensures) ∙ c .if2 .taken)
+
+returns-3 : tie.Need-returns-3
+returns-3 c =
+    let s = c .before .before .before in
+    let a = s .before .before .args in
+    sym (first-refused (viewTests (a .w) (length (a .bytes .now)) (a .offset .0) (a .len .0)) (badShape (a .context .0) (a .factor) ∷ badDelays (a .d .0) (a .e .0) ∷ []) (c .before .refusal .given .0 .0) (sym (s .view-outcome .ensures) ∙ c .before .refusal .given .1))
+
+returns-4 : tie.Need-returns-4
+returns-4 c =
+    let t = c .before .before in
+    let s = t .before .before in
+    let a = s .before .before .before .before .args in
+    none-of-two (viewTests (a .w) (length (a .bytes .now)) (a .offset .0) (a .len .0)) (sym (s .before .before .view-outcome .ensures) ∙ s .enum-told .given .1) (badShape (a .context .0) (a .factor)) (badDelays (a .d .0) (a .e .0)) (sym (t .before .bad-shape .ensures) ∙ t .if1 .left) (sym (c .before .bad-delays .ensures) ∙ c .if2 .left)
+
+pub stream-outcome-spec : {M : Type 1} → statement M
+stream-outcome-spec =
+    tie.close
+    (tie.spec
+    view-outcome-requires
+    enum-known-refusal
+    enum-told
+    bad-shape-requires
+    returns
+    bad-delays-requires
+    returns-2
+    returns-3
+    returns-4)

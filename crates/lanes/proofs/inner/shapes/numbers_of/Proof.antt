@@ -1,0 +1,89 @@
+-- Each number is its formula, with no sum that could wrap. Assumes nothing.
+use mathlib.Core.Path.{_≡_, sym, ap, ap₂, _∙_, subst}
+use Prim.Native.Nat.{ℕ, _+_, _-_, _*_, _/_, _%_, _≤_}
+use native.Mathlib.Omega.{arith}
+use borrow.Author.Needs.{needs}
+use Rattle.codes.specs.Codes.{per}
+use Rattle.lanes.specs.Lanes.{multipleAbove, starts, lane, padding}
+use Rattle.lanes.proofs.ShapeLaws.{Shaped, shaped-is, shape-ranges, group, padding-is, steps-none, steps-some}
+use Rattle.lanes.proofs.inner.shapes.numbers_of.Statement.{statement}
+use Rattle.lanes.proofs.inner.shapes.numbers_of.Tie as tie
+
+starts-of-requires : tie.Need-starts-of-requires
+starts-of-requires c κs = shape-ranges (c .args .context) (c .args .factor) (c .pre .1) .0
+
+per-byte-requires : tie.Need-per-byte-requires
+per-byte-requires c κs = search needs
+
+count-requires : tie.Need-count-requires
+count-requires c κs = search needs
+
+-- the factor's group of characters
+grouped : (c : tie.After-count) → (1 ≤ c .before .before .before .args .factor * c .count .result) × (c .before .before .before .args .factor * c .count .result ≤ 16)
+grouped c =
+    let s = c .before .before .before in
+    let r = shape-ranges (s .args .context) (s .args .factor) (s .pre .1) in
+    subst (λ (x : ℕ). (1 ≤ s .args .factor * x) × (s .args .factor * x ≤ 16)) (sym (c .count .ensures ∙ c .before .per-byte .ensures)) (group (s .pre .0) (s .args .factor) (r .2) (r .3))
+
+mul-lane-of : tie.Need-mul-lane-of
+mul-lane-of c = omega (arith, grouped c .1)
+
+lane-of-requires : tie.Need-lane-of-requires
+lane-of-requires c κs = grouped c
+
+module _ (c : tie.After-lane-of) where
+  abbrev s : tie.Start
+  s = c .before .before .before .before
+
+  starts-is : c .before .before .before .starts-of .result ≡ starts (s .args .len) (s .args .context)
+  starts-is = c .before .before .before .starts-of .ensures
+
+  lane-is : c .lane-of .result ≡ lane (s .args .w) (s .args .len) (s .args .context) (s .args .factor)
+  unfolding lane
+  lane-is = c .lane-of .ensures ∙ ap₂ (λ (x n : ℕ). multipleAbove (s .args .factor * x) ((n + 7) / 8)) (c .before .count .ensures ∙ c .before .before .per-byte .ensures) starts-is
+
+  right : Shaped (s .args .w) (s .args .len) (s .args .context) (s .args .factor)
+  right = shaped-is (s .pre .0) (s .args .len) (s .args .context) (s .args .factor) (s .pre .1)
+
+  padded : 8 * (c .lane-of .result - c .before .before .before .starts-of .result / 8) - c .before .before .before .starts-of .result % 8 ≡ padding (s .args .w) (s .args .len) (s .args .context) (s .args .factor)
+  padded = ap₂ (λ (n m : ℕ). 8 * (n - m / 8) - m % 8) lane-is starts-is ∙ padding-is (s .args .w) (s .args .len) (s .args .context) (s .args .factor) right
+
+sub-behind : tie.Need-sub-behind
+sub-behind c = omega (arith, right c, lane-is c, starts-is c)
+
+mul-behind : tie.Need-mul-behind
+mul-behind c = omega (arith, right c, lane-is c, starts-is c)
+
+sub-behind-2 : tie.Need-sub-behind-2
+sub-behind-2 c = omega (arith, right c, lane-is c, starts-is c)
+
+returns : tie.Need-returns
+returns c = let a = s (c .before) .args in record { lane = lane-is (c .before); padding = padded (c .before); steps = steps-none (a .w) (a .len) (a .context) (a .factor) (c .if1 .taken) }
+
+sub-t8 : tie.Need-sub-t8
+sub-t8 c = omega (arith, right (c .before))
+
+add-t10 : tie.Need-add-t10
+add-t10 c = omega (arith, right (c .before), lane-is (c .before))
+
+returns-2 : tie.Need-returns-2
+returns-2 c =
+    let a = s (c .before) .args in
+    record { lane = lane-is (c .before); padding = padded (c .before); steps = ap (λ (n : ℕ). n + (a .context - 1)) (lane-is (c .before)) ∙ steps-some (a .w) (a .len) (a .context) (a .factor) (right (c .before) .low) (omega arith) }
+
+pub numbers-of-spec : {M : Type 1} → statement M
+numbers-of-spec =
+    tie.close
+    (tie.spec
+    starts-of-requires
+    per-byte-requires
+    count-requires
+    mul-lane-of
+    lane-of-requires
+    sub-behind
+    mul-behind
+    sub-behind-2
+    returns
+    sub-t8
+    add-t10
+    returns-2)
