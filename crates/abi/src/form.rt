@@ -1,5 +1,5 @@
 // The stored form, edition 1.
-use plain::form;
+use plain::inner::form;
 ghost use mathlib.Core.Path.{_≡_};
 ghost use Rattle.face.specs.Face.{said};
 ghost use Rattle.forms.specs.Forms.{writeAnswer, writeAfter, readAnswer, basesAfter, flagsAfter};

@@ -1,7 +1,7 @@
 // Letters and codes, one at a time.
 use codes::letters::char_is_ambiguous;
 use codes::letters::pack_char_lossy;
-use plain::letters;
+use plain::inner::letters;
 ghost use mathlib.Core.List.{[], _∷_};
 ghost use mathlib.Core.Path.{_≡_};
 ghost use Rattle.codes.specs.Codes.{strict, lossy, flag, letter, complement, complementLetter};

@@ -1,5 +1,5 @@
 // Words of 64 bits, and of 128 as a low and a high half.
-use plain::words;
+use plain::inner::words;
 ghost use mathlib.Core.List.{[], _∷_, _++_, map};
 ghost use mathlib.Core.Path.{_≡_};
 ghost use Prim.Native.Nat.{_+_, _*_, _^_};

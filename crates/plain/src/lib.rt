@@ -1,5 +1,2 @@
 // The calls of the C face that have no width: plain numbers in, the refusal number back, and the other numbers through pointers.
-pub mod form;
-pub mod letters;
-pub mod window;
-pub mod words;
+pub mod inner;

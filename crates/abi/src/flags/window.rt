@@ -1,5 +1,5 @@
 // Flag windows over a view.
-use plain::window;
+use plain::inner::window;
 ghost use mathlib.Core.Path.{_≡_};
 ghost use lib.ListN.{length};
 ghost use Rattle.codes.specs.Refusals.{numberOf};

@@ -1,0 +1,5 @@
+// What the exported functions without a width pass on to.
+pub mod form;
+pub mod letters;
+pub mod window;
+pub mod words;
