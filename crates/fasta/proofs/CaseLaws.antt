@@ -9,7 +9,8 @@ use borrow.Author.Tests.{eq-eqb, ne-eqb, lt-ltb, le-ltb}
 use lib.ListN.{length, getD}
 use Rattle.codes.specs.Codes.{chars}
 use Rattle.fasta.specs.Report.{isHeader}
-use Rattle.fasta.specs.Rows.{Put, setFlags, strandOf, rowOf, totalOf}
+use Rattle.rows.specs.Columns.{Put, setFlags, strandOf}
+use Rattle.fasta.specs.Rows.{rowOf, totalOf}
 use Rattle.fasta.specs.Records.{ordinal, rowFrom, closed, marked}
 use Rattle.fasta.specs.Steps.{Move, stepped, seen, inLine, atLine, moved, next, ending, lastLines}
 use Rattle.fasta.specs.Buffers.{onto, lineTrack, trackAfter, otherAfter, endMarked, otherAtEnd}
@@ -20,7 +21,8 @@ use Rattle.fasta.specs.declared.reader.Stepped.{Stepped}
 use Rattle.fasta.proofs.BoundLaws.{row-from-length, seen-all, track-none, other-none}
 use Rattle.fasta.proofs.LineLaws.{header-first}
 use Rattle.fasta.proofs.RowLaws.{put-as}
-use Rattle.fasta.proofs.SetsLaws.{put-then, put-place, put-onto}
+use Rattle.rows.proofs.SetsLaws.{put-then}
+use Rattle.fasta.proofs.FrontLaws.{put-place, put-onto}
 
 next-some : (reader : Reader) (part bases flags : List ℕ) → 0 < length part → next reader part bases flags ≡ moved reader part bases flags
 unfolding next

@@ -6,9 +6,7 @@ pub mod LineLaws
 pub mod LetterLaws
 pub mod PushLaws
 pub mod HoldLaws
-pub mod SetsLaws
-pub mod DecimalLaws
-pub mod StrandLaws
+pub mod FrontLaws
 pub mod RowLaws
 pub mod BoundLaws
 pub mod LeadLaws

@@ -2,7 +2,8 @@
 use mathlib.Core.List.{[], _∷_}
 use mathlib.Core.Path.{_≡_, refl}
 use Rattle.codes.specs.Codes.{flag, strict}
-use Rattle.fasta.specs.Report.{report, lines, table, records, rows, row, ambiguous, strand, decimalIn}
+use Rattle.rows.specs.Columns.{decimalIn}
+use Rattle.fasta.specs.Report.{report, lines, table, records, rows, row, ambiguous, strand}
 use Rattle.order.specs.Order.{compare}
 
 -- `>a`, `ACGTN`, `AC`, `>b`, and a blank line

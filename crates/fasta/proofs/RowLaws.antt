@@ -8,11 +8,12 @@ use borrow.Author.Tests.{lt-ltb, le-ltb}
 use lib.ListN.{length, length-append}
 use Rattle.codes.proofs.WidthLaws.{below-or}
 use Rattle.writes.specs.Writes.{flippedOver}
-use Rattle.fasta.specs.Report.{decimal, tooLongText}
-use Rattle.fasta.specs.Rows.{Put, columns, body, rowOf, totalOf}
+use Rattle.rows.specs.Columns.{decimal, Put, columns}
+use Rattle.fasta.specs.Report.{tooLongText}
+use Rattle.fasta.specs.Rows.{body, rowOf, totalOf}
 use Rattle.fasta.specs.Records.{marked}
 use Rattle.fasta.specs.declared.reader.Record.{Record}
-use Rattle.fasta.proofs.DecimalLaws.{decimal-length}
+use Rattle.rows.proofs.DecimalLaws.{decimal-length}
 
 pub body-long : (count a mark : ℕ) → 16384 < count → tooLongText ≡ body count a mark
 unfolding body

@@ -5,7 +5,8 @@ use Prim.Native.Nat.{ℕ, _+_, _%_, _^_}
 use lib.Dec.{ltb}
 use Rattle.codes.specs.Codes.{pick, chars}
 use Rattle.writes.specs.Writes.{flippedOver}
-use Rattle.fasta.specs.Rows.{setFlags, strandOf, rowOf, totalOf}
+use Rattle.rows.specs.Columns.{setFlags, strandOf}
+use Rattle.fasta.specs.Rows.{rowOf, totalOf}
 use Rattle.fasta.specs.declared.reader.Record.{Record}
 
 -- 16,385 stands for any number above 16,384

@@ -1,25 +1,16 @@
 -- The program: FASTA in, a table of records out. The report is defined on the whole input.
 -- Assumes nothing.
-use mathlib.Core.Bool.{Bool, true, false}
+use mathlib.Core.Bool.{Bool, false}
 use mathlib.Core.List.{List, [], _∷_, _++_, map}
-use Prim.Native.Nat.{ℕ, zero, suc, _+_, _/_, _%_}
+use Prim.Native.Nat.{ℕ, suc, _+_}
 use lib.Dec.{ltb, eqb}
 use lib.ListN.{length}
 use Rattle.codes.specs.Codes.{pick, lossy, flag}
 use Rattle.order.specs.Order.{compare}
 use Rattle.views.specs.Views.{flipped}
-use Rattle.order.specs.declared.answers.Order.{Order}
-use Rattle.order.specs.declared.answers.Order.the-variants.{Less, Equal, Greater}
+use Rattle.rows.specs.Columns.{decimal, sign}
 
--- a number in decimal, in at most k digits; a tab is byte 9, LF byte 10
-unfoldable pub decimalIn : ℕ → ℕ → List ℕ
-decimalIn zero n = []
-decimalIn (suc k) n = pick (ltb n 10) ((48 + n) ∷ []) (decimalIn k (n / 10) ++ ((48 + n % 10) ∷ []))
-
-abbrev pub decimal : ℕ → List ℕ
-decimal = decimalIn 20
-
--- "record", "bases", "ambiguous", "strand", tabs between them
+-- "record", "bases", "ambiguous", "strand", tabs between them; a tab is byte 9, LF byte 10
 abbrev pub heading : List ℕ
 heading =
     114 ∷ 101 ∷ 99 ∷ 111 ∷ 114 ∷ 100 ∷ 9
@@ -63,11 +54,6 @@ ambiguous [] = 0
 ambiguous (x ∷ xs) = flag x + ambiguous xs
 
 -- the record's bases against their reverse complement: `<`, `=` or `>`
-abbrev pub sign : Order → ℕ
-sign Less = 60
-sign Equal = 61
-sign Greater = 62
-
 unfoldable pub strand : List ℕ → ℕ
 strand letters = sign (compare (map lossy letters) (flipped 2 (map lossy letters)))
 

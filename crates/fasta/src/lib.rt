@@ -1,7 +1,6 @@
 // FASTA in, a table of records out: the input comes in parts of any size, and each step writes at most one row.
-mod counts;
 mod letters;
 mod lines;
 pub mod reader;
-mod rows;
+mod report;
 mod states;

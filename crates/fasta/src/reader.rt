@@ -1,20 +1,20 @@
 // The record reader: a state by value, a start, a step and a finish.
-use crate::rows::put_text;
-use crate::rows::put_total;
+use crate::report::put_total;
 use crate::states::at_line;
 use crate::states::begin;
 use crate::states::close;
 use crate::states::in_header;
 use crate::states::in_line;
+use rows::inner::puts::put_text;
 ghost use mathlib.Core.Path.{_≡_};
 ghost use lib.ListN.{length};
 ghost use Rattle.fasta.specs.Steps.{stepped, seen, next, started, lastLines};
 ghost use Rattle.fasta.specs.Buffers.{onto, trackAfter, otherAfter, otherAtEnd};
 
 // The bytes of a buffer for 16,384 bases, for 16,384 flags, and for what a call writes.
-pub const BASES: usize = 4144;
+pub const BASES: usize = rows::inner::strands::BASES;
 
-pub const FLAGS: usize = 2096;
+pub const FLAGS: usize = rows::inner::counts::FLAGS;
 
 pub const OUT: usize = 96;
 

@@ -4,7 +4,7 @@ use native.Mathlib.Omega.{arith}
 use Rattle.fasta.specs.declared.reader.Reader.the-variants as Reader
 use Rattle.fasta.proofs.CaseLaws.{ends-in, ends-none}
 use Rattle.fasta.proofs.RowLaws.{total-length}
-use Rattle.fasta.proofs.SetsLaws.{put-place, put-onto}
+use Rattle.fasta.proofs.FrontLaws.{put-place, put-onto}
 use borrow.Author.Needs.{needs}
 use Rattle.fasta.proofs.reader.finish.Statement.{statement}
 use Rattle.fasta.proofs.reader.finish.Tie as tie

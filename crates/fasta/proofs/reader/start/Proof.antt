@@ -5,7 +5,7 @@ use borrow.Author.Needs.{needs}
 use borrow.Author.Tests.{lt-ltb, le-ltb}
 use Rattle.fasta.specs.Steps.{started}
 use Rattle.fasta.specs.declared.reader.Reader.the-variants as Reader
-use Rattle.fasta.proofs.SetsLaws.{put-place, put-onto}
+use Rattle.fasta.proofs.FrontLaws.{put-place, put-onto}
 use Rattle.fasta.proofs.reader.start.Statement.{statement}
 use Rattle.fasta.proofs.reader.start.Tie as tie
 

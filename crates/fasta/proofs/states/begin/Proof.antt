@@ -5,7 +5,7 @@ use borrow.Author.Needs.{needs}
 use borrow.Author.Tests.{eq-eqb, ne-eqb}
 use Rattle.fasta.specs.Steps.{begun}
 use Rattle.fasta.specs.declared.reader.Reader.the-variants as Reader
-use Rattle.fasta.proofs.SetsLaws.{put-place, put-onto}
+use Rattle.fasta.proofs.FrontLaws.{put-place, put-onto}
 use Rattle.fasta.proofs.states.begin.Statement.{statement}
 use Rattle.fasta.proofs.states.begin.Tie as tie
 

@@ -1,11 +1,12 @@
 -- Two puts, one after the other. Assumes nothing.
 use native.Mathlib.Omega.{arith}
 use Rattle.codes.specs.Codes.{chars}
-use Rattle.fasta.specs.Rows.{setFlags, strandOf}
+use Rattle.rows.specs.Columns.{setFlags, strandOf}
 use Rattle.fasta.proofs.BoundLaws.{closed-length}
 use Rattle.fasta.proofs.CaseLaws.{closed-put}
 use Rattle.fasta.proofs.RowLaws.{row-length}
-use Rattle.fasta.proofs.SetsLaws.{put-length, put-place, put-onto}
+use Rattle.rows.proofs.SetsLaws.{put-length}
+use Rattle.fasta.proofs.FrontLaws.{put-place, put-onto}
 use borrow.Author.Needs.{needs}
 use Rattle.fasta.proofs.states.close.Statement.{statement}
 use Rattle.fasta.proofs.states.close.Tie as tie

@@ -1,0 +1,4 @@
+pub mod SetsLaws
+pub mod DecimalLaws
+pub mod FlagLaws
+pub mod StrandLaws
