@@ -1,7 +1,7 @@
 // The stored form, edition 1.
 use plain::inner::form;
 ghost use mathlib.Core.Path.{_≡_};
-ghost use Rattle.face.specs.Face.{said};
+ghost use Rattle.given.specs.Face.{said};
 ghost use Rattle.forms.specs.Forms.{writeAnswer, writeAfter, readAnswer, basesAfter, flagsAfter};
 
 #[no_mangle]

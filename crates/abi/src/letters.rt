@@ -6,7 +6,7 @@ ghost use mathlib.Core.List.{[], _∷_};
 ghost use mathlib.Core.Path.{_≡_};
 ghost use Rattle.codes.specs.Codes.{strict, lossy, flag, letter, complement, complementLetter};
 ghost use Rattle.codes.specs.Refusals.{answer, first, badLetter, badCapital, badCode};
-ghost use Rattle.face.specs.Face.{said};
+ghost use Rattle.given.specs.Face.{said};
 
 #[no_mangle]
 pub extern "C" fn tsiv_pack_char(byte: u8, code: &mut u8) -> u32

@@ -8,7 +8,7 @@ ghost use Rattle.codes.specs.Answers.{halves};
 ghost use Rattle.codes.specs.Codes.{lossy, letter, complement};
 ghost use Rattle.codes.specs.Refusals.{answer, first, ifDone, numberOf, badWord, noRoom};
 ghost use Rattle.codes.specs.Words.{word, charsOf, flip};
-ghost use Rattle.face.specs.Face.{said};
+ghost use Rattle.given.specs.Face.{said};
 
 #[no_mangle]
 pub extern "C" fn tsiv_pack_kmer_lossy(letters: &[u8], to: &mut u64) -> u32

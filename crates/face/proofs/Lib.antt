@@ -1,3 +1,2 @@
-mod Said
 mod PartLaws
 pub mod Places

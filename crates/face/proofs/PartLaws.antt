@@ -16,8 +16,8 @@ use Rattle.order.proofs.OrderLaws.{pair-views}
 use Rattle.views.specs.Answers.{numbersSay}
 use Rattle.views.specs.Views.{viewTests}
 use Rattle.views.specs.declared.inner.parts.Numbers.{Numbers}
-use Rattle.face.specs.Face.{said}
-use Rattle.face.specs.Parts.{Part, none, partOf, normalisedPart, leastPart}
+use Rattle.given.specs.Face.{said, Part, none}
+use Rattle.face.specs.Parts.{partOf, normalisedPart, leastPart}
 
 -- the numbers of a part of k bytes, as a call gives them
 pub part-numbers : (n : Numbers) (q : Outcome) (k o len : ℕ) → numbersSay n ≡ answer q (o, len) (0, 0) → answer {A = Part} (n .outcome) (0, k, n .offset .0, n .len .0) none ≡ answer q (0, k, o, len) none

@@ -12,7 +12,8 @@ use Rattle.codes.specs.declared.refusals.Outcome.{Outcome}
 use Rattle.codes.specs.declared.refusals.Outcome.the-variants.{Done, Refused}
 use Rattle.order.specs.Order.{pairOutcome, pairOrder, isSecond, leastBytes, leastNumbers}
 use Rattle.views.specs.Views.{viewTests, Lent, lent, normalPart, made, sliced, normalised}
-use Rattle.face.specs.Parts.{Part, none, partOf, madePart, slicedPart, normalisedPart, leastPart}
+use Rattle.given.specs.Face.{Part, none}
+use Rattle.face.specs.Parts.{partOf, madePart, slicedPart, normalisedPart, leastPart}
 
 -- the bytes of a part within the lent ones
 abbrev pub bytesAt : List ℕ → Part → List ℕ

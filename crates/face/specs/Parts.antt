@@ -6,15 +6,9 @@ use Prim.Native.Nat.{ℕ, _+_, _-_, _/_, _%_}
 use lib.ListN.{length}
 use Rattle.codes.specs.Codes.{per, pick}
 use Rattle.codes.specs.Refusals.{Answer, answer, first, badEnd, badStart}
+use Rattle.given.specs.Face.{Part, none}
 use Rattle.order.specs.Order.{pairOutcome, pairOrder, isSecond}
 use Rattle.views.specs.Views.{viewTests, normalPart}
-
--- first byte, count of bytes, offset and length
-abbrev pub Part : Type 0
-Part = ℕ × ℕ × ℕ × ℕ
-
-abbrev pub none : Part
-none = (0, 0, 0, 0)
 
 -- the normalised part of a view
 abbrev pub partOf : ℕ → List ℕ → ℕ → ℕ → Part

@@ -3,8 +3,8 @@ use face::inner::pair;
 use face::inner::parts;
 ghost use mathlib.Core.Bool.{Bool};
 ghost use mathlib.Core.Path.{_≡_};
-ghost use Rattle.face.specs.Face.{said};
-ghost use Rattle.face.specs.Parts.{Part, leastPart};
+ghost use Rattle.given.specs.Face.{said, Part};
+ghost use Rattle.face.specs.Parts.{leastPart};
 ghost use Rattle.order.specs.Order.{compared, ordered, equalled, found};
 
 #[no_mangle]

@@ -3,7 +3,7 @@ use face::inner::parts;
 use face::inner::view;
 ghost use mathlib.Core.Path.{_≡_};
 ghost use Rattle.codes.specs.Refusals.{ifDone, numberOf};
-ghost use Rattle.face.specs.Face.{said};
+ghost use Rattle.given.specs.Face.{said};
 ghost use Rattle.face.specs.Parts.{madePart, slicedPart, normalisedPart};
 ghost use Rattle.views.specs.Views.{got, gotSliced, asU64, asU128, flippedAsU64, flippedAsU128};
 ghost use Rattle.writes.specs.Writes.{unpackOutcome, unpackedOver, flipOutcome, flippedOver};

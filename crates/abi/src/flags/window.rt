@@ -3,7 +3,7 @@ use plain::inner::window;
 ghost use mathlib.Core.Path.{_≡_};
 ghost use lib.ListN.{length};
 ghost use Rattle.codes.specs.Refusals.{numberOf};
-ghost use Rattle.face.specs.Face.{said, state};
+ghost use Rattle.given.specs.Face.{said, state};
 ghost use Rattle.windows.specs.Windows.{windowsAnswer, windowsAfter, runOutcome, runAnswers, runState};
 
 #[no_mangle]

@@ -1,5 +1,4 @@
-// Functions with the width as a number, and how an answer is given through pointers.
-pub mod give;
+// Functions with the width as a number, which ask something of their callers.
 pub mod pair;
 pub mod parts;
 pub mod store;

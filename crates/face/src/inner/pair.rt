@@ -1,11 +1,11 @@
 // Two views, at any width.
-use crate::inner::give;
 use codes::units::Chars;
+use given::inner::give;
 use order::inner::compare;
 use order::inner::find::find_views;
 ghost use mathlib.Core.Path.{_≡_};
 ghost use Rattle.codes.specs.Codes.{IsWidth};
-ghost use Rattle.face.specs.Face.{said};
+ghost use Rattle.given.specs.Face.{said};
 ghost use Rattle.order.specs.Order.{compared, ordered, equalled, found};
 
 pub fn cmp_lcp(

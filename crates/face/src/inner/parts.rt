@@ -1,9 +1,9 @@
 // Parts of a lent buffer, at any width: where the part lies, and the numbers of the view that it holds.
-use crate::inner::give;
 use codes::inner::counts::byte_of;
 use codes::inner::counts::within_byte;
 use codes::refusals::Outcome;
 use codes::units::Chars;
+use given::inner::give;
 use order::answers::Order;
 use order::inner::compare::order_of;
 use order::inner::pairs::pair_outcome;
@@ -14,8 +14,8 @@ ghost use mathlib.Core.Bool.{Bool};
 ghost use mathlib.Core.Path.{_≡_};
 ghost use Rattle.codes.specs.Codes.{IsWidth};
 ghost use Rattle.codes.specs.declared.refusals.Outcome.the-variants.{Done};
-ghost use Rattle.face.specs.Face.{said};
-ghost use Rattle.face.specs.Parts.{Part, madePart, slicedPart, normalisedPart, leastPart};
+ghost use Rattle.given.specs.Face.{said, Part};
+ghost use Rattle.face.specs.Parts.{madePart, slicedPart, normalisedPart, leastPart};
 ghost use Rattle.order.specs.Order.{pairOutcome, pairOrder, isSecond};
 
 // The view itself, where it is accepted.

@@ -1,6 +1,6 @@
 // Stores, at any width: a buffer and its length, which a call brings up to date.
-use crate::inner::give;
 use codes::units::Chars;
+use given::inner::give;
 use stores::inner::calls::clear_store;
 use stores::inner::calls::cut_store;
 use stores::inner::calls::overwrite_store;
@@ -9,7 +9,7 @@ use stores::inner::calls::push_view;
 ghost use mathlib.Core.Path.{_≡_};
 ghost use lib.ListN.{length};
 ghost use Rattle.codes.specs.Codes.{IsWidth};
-ghost use Rattle.face.specs.Face.{said};
+ghost use Rattle.given.specs.Face.{said};
 ghost use Rattle.stores.specs.Stores as Stores;
 ghost use Rattle.stores.specs.Stores.{answered, after};
 

@@ -1,6 +1,6 @@
 // Streams over a view, at any width.
-use crate::inner::give;
 use codes::units::Chars;
+use given::inner::give;
 use streams::inner::fills;
 use streams::inner::shapes;
 use streams::inner::steps;
@@ -9,7 +9,7 @@ ghost use mathlib.Core.Path.{_≡_};
 ghost use lib.ListN.{length};
 ghost use Rattle.codes.specs.Codes.{IsWidth};
 ghost use Rattle.codes.specs.Refusals.{numberOf};
-ghost use Rattle.face.specs.Face.{said};
+ghost use Rattle.given.specs.Face.{said};
 ghost use Rattle.streams.specs.Streams.{shaped, fillOutcome, fillAnswer, fillAfter, stepOutcome, stepLanes};
 
 pub fn shape(

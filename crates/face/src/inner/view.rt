@@ -1,7 +1,7 @@
 // One view, at any width.
-use crate::inner::give;
 use codes::letters::Symbol;
 use codes::units::Chars;
+use given::inner::give;
 use views::bases;
 use views::flags;
 use views::inner::parts::get_at;
@@ -13,7 +13,7 @@ ghost use Prim.Native.Nat.{_≤_};
 ghost use Rattle.codes.specs.Answers.{symbolSays};
 ghost use Rattle.codes.specs.Codes.{IsWidth};
 ghost use Rattle.codes.specs.Refusals.{ifDone, numberOf};
-ghost use Rattle.face.specs.Face.{said};
+ghost use Rattle.given.specs.Face.{said};
 ghost use Rattle.views.specs.Views.{got, gotSliced, asU64, asU128, flippedAsU64, flippedAsU128};
 ghost use Rattle.writes.specs.Writes.{unpackOutcome, unpackedOver, flipOutcome, flippedOver};
 

@@ -1,8 +1,8 @@
 // The stored form, edition 1.
 use codes::units::Chars;
-use face::inner::give;
+use given::inner::give;
 ghost use mathlib.Core.Path.{_≡_};
-ghost use Rattle.face.specs.Face.{said};
+ghost use Rattle.given.specs.Face.{said};
 ghost use Rattle.forms.specs.Forms.{writeAnswer, writeAfter, readAnswer, basesAfter, flagsAfter};
 
 pub fn write(

@@ -1,11 +1,11 @@
 // Letters and codes, one at a time.
 use codes::letters;
-use face::inner::give;
+use given::inner::give;
 ghost use mathlib.Core.List.{[], _∷_};
 ghost use mathlib.Core.Path.{_≡_};
 ghost use Rattle.codes.specs.Codes.{strict, letter, complement, complementLetter};
 ghost use Rattle.codes.specs.Refusals.{answer, first, badLetter, badCapital, badCode};
-ghost use Rattle.face.specs.Face.{said};
+ghost use Rattle.given.specs.Face.{said};
 
 pub fn pack_char(byte: u8, code: &mut u8) -> u32
     ensures { λ r. ⌜ said r (now (code .exit)) ≡ answer (first (badLetter byte ∷ [])) (strict byte) 0 ⌝ }

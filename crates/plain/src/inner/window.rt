@@ -1,13 +1,13 @@
 // Flag windows over a view.
 use codes::units::Chars;
-use face::inner::give;
+use given::inner::give;
 use windows::answers::Windows;
 use windows::flags::fill_windows;
 use windows::flags::step_windows;
 ghost use mathlib.Core.Path.{_≡_};
 ghost use lib.ListN.{length};
 ghost use Rattle.codes.specs.Refusals.{numberOf};
-ghost use Rattle.face.specs.Face.{said, state};
+ghost use Rattle.given.specs.Face.{said, state};
 ghost use Rattle.windows.specs.Windows.{windowsAnswer, windowsAfter, runOutcome, runAnswers, runState};
 
 pub fn fill(

@@ -1,7 +1,7 @@
 // Words of 64 bits, and of 128 as a low and a high half.
 use codes::units::Chars;
 use codes::words;
-use face::inner::give;
+use given::inner::give;
 ghost use mathlib.Core.List.{[], _∷_, _++_, map};
 ghost use mathlib.Core.Path.{_≡_};
 ghost use Prim.Native.Nat.{_+_, _*_, _^_};
@@ -10,7 +10,7 @@ ghost use Rattle.codes.specs.Answers.{halves};
 ghost use Rattle.codes.specs.Codes.{lossy, letter, complement};
 ghost use Rattle.codes.specs.Refusals.{answer, first, ifDone, numberOf, badWord, noRoom};
 ghost use Rattle.codes.specs.Words.{word, charsOf, flip};
-ghost use Rattle.face.specs.Face.{said};
+ghost use Rattle.given.specs.Face.{said};
 
 pub fn pack_kmer_lossy(letters: &[u8], to: &mut u64) -> u32
     ensures { λ r. ⌜ said r (now (to .exit)) ≡ answer (first (badWord 0 32 (length (now (letters .entry))) ∷ [])) (word 2 (map lossy (now (letters .entry)))) 0 ⌝ }

@@ -3,7 +3,8 @@ use mathlib.Core.Bool.{Bool, true, false}
 use mathlib.Core.Path.{sym, _∙_}
 use Rattle.codes.proofs.OutcomeLaws.{answer-refused}
 use Rattle.order.specs.Order.{pairOutcome}
-use Rattle.face.specs.Parts.{Part, none, leastPart}
+use Rattle.given.specs.Face.{Part, none}
+use Rattle.face.specs.Parts.{leastPart}
 use Rattle.face.proofs.PartLaws.{with-second, least-first, least-second}
 use borrow.Author.Needs.{needs}
 use Rattle.face.proofs.inner.parts.least.Statement.{statement}

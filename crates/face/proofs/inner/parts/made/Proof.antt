@@ -3,7 +3,8 @@ use mathlib.Core.Path.{ap, _∙_}
 use lib.ListN.{length}
 use Rattle.codes.specs.Refusals.{answer}
 use Rattle.codes.specs.declared.refusals.Outcome.{Outcome}
-use Rattle.face.specs.Parts.{Part, none, madePart}
+use Rattle.given.specs.Face.{Part, none}
+use Rattle.face.specs.Parts.{madePart}
 use borrow.Author.Needs.{needs}
 use Rattle.face.proofs.inner.parts.made.Statement.{statement}
 use Rattle.face.proofs.inner.parts.made.Tie as tie

@@ -7,7 +7,8 @@ use Rattle.codes.specs.Codes.{per}
 use Rattle.codes.specs.Refusals.{answer, first}
 use Rattle.codes.specs.declared.refusals.Outcome.{Outcome}
 use Rattle.views.specs.Views.{viewTests, normalPart}
-use Rattle.face.specs.Parts.{Part, none, normalisedPart}
+use Rattle.given.specs.Face.{Part, none}
+use Rattle.face.specs.Parts.{normalisedPart}
 use Rattle.face.proofs.PartLaws.{part-bytes}
 use borrow.Author.Needs.{needs}
 use Rattle.face.proofs.inner.parts.normalised.Statement.{statement}

@@ -5,7 +5,8 @@ use Prim.Native.Nat.{ℕ, _+_, _-_}
 use lib.ListN.{length}
 use Rattle.codes.specs.Refusals.{answer, first, badEnd, badStart}
 use Rattle.views.specs.Views.{viewTests}
-use Rattle.face.specs.Parts.{Part, none, slicedPart}
+use Rattle.given.specs.Face.{Part, none}
+use Rattle.face.specs.Parts.{slicedPart}
 use Rattle.face.proofs.PartLaws.{part-numbers}
 use borrow.Author.Needs.{needs}
 use Rattle.face.proofs.inner.parts.sliced.Statement.{statement}

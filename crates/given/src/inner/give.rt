@@ -1,0 +1,304 @@
+// An answer as the number that a call returns and the numbers behind its pointers.
+use codes::letters::Symbol;
+use codes::refusals::Outcome;
+use codes::refusals::Refusal;
+use codes::words::Word;
+use codes::words::Word128;
+use forms::answers::Restored;
+use forms::answers::Wrote;
+use order::answers::Compared;
+use order::answers::Equality;
+use order::answers::Found;
+use order::answers::Order;
+use order::answers::Ordered;
+use stores::answers::Kept;
+use stores::answers::Pushed;
+use streams::answers::Filled;
+use streams::answers::Shape;
+ghost use mathlib.Core.Path.{_≡_};
+ghost use Rattle.codes.specs.Answers.{symbolSays, wordSays, word128Says};
+ghost use Rattle.codes.specs.Refusals.{answer, number, numberOf};
+ghost use Rattle.given.specs.Face.{said};
+ghost use Rattle.given.specs.Face.{none};
+ghost use Rattle.forms.specs.Answers.{wroteSays, restoredSays};
+ghost use Rattle.order.specs.Answers.{comparedSays, orderedSays, equalitySays, foundSays};
+ghost use Rattle.order.specs.Order.{orderNumber};
+ghost use Rattle.stores.specs.Answers.{pushedSays, keptSays};
+ghost use Rattle.streams.specs.Answers.{shapeSays, filledSays};
+
+pub fn refusal_no(refusal: Refusal) -> u32
+    ensures { λ r. ⌜ r ≡ number refusal ⌝ }
+{
+    refusal.number() as u32
+}
+
+pub fn no(outcome: Outcome) -> u32
+    ensures { λ r. ⌜ r ≡ numberOf outcome ⌝ }
+{
+    outcome.number() as u32
+}
+
+pub fn order_no(order: Order) -> i32
+    ensures { λ r. ⌜ r ≡ orderNumber order ⌝ }
+{
+    match order {
+        Order::Less => -1,
+        Order::Equal => 0,
+        Order::Greater => 1,
+    }
+}
+
+pub fn symbol(answer: Symbol, to: &mut u8) -> u32
+    ensures { λ r. ⌜ said r (now (to .exit)) ≡ symbolSays answer ⌝ }
+{
+    match answer {
+        Symbol::Is(x) => {
+            *to = x;
+            0
+        }
+        Symbol::Refused(refusal) => {
+            *to = 0;
+            refusal_no(refusal)
+        }
+    }
+}
+
+pub fn word(answer: Word, to: &mut u64) -> u32
+    ensures { λ r. ⌜ said r (now (to .exit)) ≡ wordSays answer ⌝ }
+{
+    match answer {
+        Word::Is(x) => {
+            *to = x;
+            0
+        }
+        Word::Refused(refusal) => {
+            *to = 0;
+            refusal_no(refusal)
+        }
+    }
+}
+
+pub fn word128(answer: Word128, low: &mut u64, high: &mut u64) -> u32
+    ensures { λ r. ⌜ said r (now (low .exit), now (high .exit)) ≡ word128Says answer ⌝ }
+{
+    match answer {
+        Word128::Is { low: a, high: b } => {
+            *low = a;
+            *high = b;
+            0
+        }
+        Word128::Refused(refusal) => {
+            *low = 0;
+            *high = 0;
+            refusal_no(refusal)
+        }
+    }
+}
+
+pub fn compared(answer: Compared, order: &mut i32, common: &mut usize) -> u32
+    ensures { λ r. ⌜ said r (now (order .exit), now (common .exit)) ≡ comparedSays answer ⌝ }
+{
+    match answer {
+        Compared::Is(way, count) => {
+            *order = order_no(way);
+            *common = count.count();
+            0
+        }
+        Compared::Refused(refusal) => {
+            *order = 0;
+            *common = 0;
+            refusal_no(refusal)
+        }
+    }
+}
+
+pub fn ordered(answer: Ordered, order: &mut i32) -> u32
+    ensures { λ r. ⌜ said r (now (order .exit)) ≡ orderedSays answer ⌝ }
+{
+    match answer {
+        Ordered::Is(way) => {
+            *order = order_no(way);
+            0
+        }
+        Ordered::Refused(refusal) => {
+            *order = 0;
+            refusal_no(refusal)
+        }
+    }
+}
+
+pub fn equality(answer: Equality, equal: &mut bool) -> u32
+    ensures { λ r. ⌜ said r (now (equal .exit)) ≡ equalitySays answer ⌝ }
+{
+    match answer {
+        Equality::Is(same) => {
+            *equal = same;
+            0
+        }
+        Equality::Refused(refusal) => {
+            *equal = false;
+            refusal_no(refusal)
+        }
+    }
+}
+
+pub fn found(answer: Found, there: &mut bool, place: &mut usize) -> u32
+    ensures { λ r. ⌜ said r (now (there .exit), now (place .exit)) ≡ foundSays answer ⌝ }
+{
+    match answer {
+        Found::At(at) => {
+            *there = true;
+            *place = at.count();
+            0
+        }
+        Found::Absent => {
+            *there = false;
+            *place = 0;
+            0
+        }
+        Found::Refused(refusal) => {
+            *there = false;
+            *place = 0;
+            refusal_no(refusal)
+        }
+    }
+}
+
+pub fn pushed(answer: Pushed, start: &mut usize, end: &mut usize, len: &mut usize) -> u32
+    ensures { λ r. ⌜ said r (now (start .exit), now (end .exit), now (len .exit)) ≡ pushedSays answer ⌝ }
+{
+    match answer {
+        Pushed::Done { start: a, end: b } => {
+            *start = a.count();
+            *end = b.count();
+            *len = b.count();
+            0
+        }
+        Pushed::Refused { refusal, len: old } => {
+            *start = 0;
+            *end = 0;
+            *len = old.count();
+            refusal_no(refusal)
+        }
+    }
+}
+
+pub fn kept(answer: Kept, len: &mut usize) -> u32
+    ensures { λ r. ⌜ said r (0, 0, now (len .exit)) ≡ keptSays answer ⌝ }
+{
+    match answer {
+        Kept::Done { len: new } => {
+            *len = new.count();
+            0
+        }
+        Kept::Refused { refusal, len: same } => {
+            *len = same.count();
+            refusal_no(refusal)
+        }
+    }
+}
+
+pub fn shape(answer: Shape, lane: &mut usize, padding: &mut usize, steps: &mut usize) -> u32
+    ensures { λ r. ⌜ said r (now (lane .exit), now (padding .exit), now (steps .exit)) ≡ shapeSays answer ⌝ }
+{
+    match answer {
+        Shape::Is {
+            lane: a,
+            padding: b,
+            steps: c,
+        } => {
+            *lane = a.count();
+            *padding = b.count();
+            *steps = c;
+            0
+        }
+        Shape::Refused(refusal) => {
+            *lane = 0;
+            *padding = 0;
+            *steps = 0;
+            refusal_no(refusal)
+        }
+    }
+}
+
+pub fn filled(answer: Filled, steps: &mut usize, padding: &mut usize) -> u32
+    ensures { λ r. ⌜ said r (now (steps .exit), now (padding .exit)) ≡ filledSays answer ⌝ }
+{
+    match answer {
+        Filled::Is {
+            steps: a,
+            padding: b,
+        } => {
+            *steps = a;
+            *padding = b.count();
+            0
+        }
+        Filled::Refused(refusal) => {
+            *steps = 0;
+            *padding = 0;
+            refusal_no(refusal)
+        }
+    }
+}
+
+pub fn wrote(answer: Wrote, written: &mut usize) -> u32
+    ensures { λ r. ⌜ said r (now (written .exit)) ≡ wroteSays answer ⌝ }
+{
+    match answer {
+        Wrote::Is(n) => {
+            *written = n.count();
+            0
+        }
+        Wrote::Refused(refusal) => {
+            *written = 0;
+            refusal_no(refusal)
+        }
+    }
+}
+
+pub fn restored(answer: Restored, len: &mut usize) -> u32
+    ensures { λ r. ⌜ said r (now (len .exit)) ≡ restoredSays answer ⌝ }
+{
+    match answer {
+        Restored::Is(n) => {
+            *len = n.count();
+            0
+        }
+        Restored::Refused(refusal) => {
+            *len = 0;
+            refusal_no(refusal)
+        }
+    }
+}
+
+// A part that is handed back, and zeros beside a refusal.
+pub fn part(
+    outcome: Outcome,
+    first: usize,
+    bytes: usize,
+    offset: usize,
+    len: usize,
+    at: &mut usize,
+    size: &mut usize,
+    part_offset: &mut usize,
+    part_len: &mut usize,
+) -> u32
+    ensures { λ r. ⌜ said r (now (at .exit), now (size .exit), now («part_offset» .exit), now («part_len» .exit)) ≡ answer outcome (first, bytes, offset, len) none ⌝ }
+{
+    match outcome {
+        Outcome::Done => {
+            *at = first;
+            *size = bytes;
+            *part_offset = offset;
+            *part_len = len;
+            0
+        }
+        Outcome::Refused(refusal) => {
+            *at = 0;
+            *size = 0;
+            *part_offset = 0;
+            *part_len = 0;
+            refusal_no(refusal)
+        }
+    }
+}
