@@ -1,7 +1,5 @@
 -- Each index is below the length. Assumes nothing.
 use Prim.Native.Nat.{_≤_, _-_}
-use native.Mathlib.Omega.{arith}
-use lib.ListN.{length}
 use borrow.Author.Needs.{needs}
 use Rattle.vectors.proofs.print.bytes.Statement.{statement}
 use Rattle.vectors.proofs.print.bytes.Tie as tie
