@@ -1,7 +1,7 @@
 // Lane streams over a view of the first buffer, at width 2 and, for any other number, at width 1; flag windows.
-use crate::given::chars;
-use crate::given::number;
-use crate::print;
+use cases::given::chars;
+use cases::given::number;
+use cases::print;
 use streams::answers::Filled;
 use streams::bases;
 use streams::flags;

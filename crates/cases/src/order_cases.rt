@@ -5,7 +5,7 @@ use codes::units::Chars;
 use order::bases;
 use order::flags;
 
-pub(crate) fn run<'a>(call: u64, line: &[u64; 512], a: &'a [u8], b: &'a [u8]) {
+pub fn run<'a>(call: u64, line: &[u64; 512], a: &'a [u8], b: &'a [u8]) {
     let ao = chars(line, 2);
     let al = chars(line, 3);
     let bo = chars(line, 4);

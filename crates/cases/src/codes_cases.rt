@@ -6,7 +6,7 @@ use codes::letters;
 use codes::units::Chars;
 use codes::words;
 
-pub(crate) fn run(call: u64, line: &[u64; 512], text: &[u8], out: &mut [u8]) {
+pub fn run(call: u64, line: &[u64; 512], text: &[u8], out: &mut [u8]) {
     match call {
         10 => letter((line[1] % 256) as u8),
         11 => code((line[1] % 256) as u8),

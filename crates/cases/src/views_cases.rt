@@ -6,7 +6,7 @@ use views::bases;
 use views::flags;
 use views::inner::parts::get_at;
 
-pub(crate) fn run(call: u64, line: &[u64; 512], bytes: &[u8], out: &mut [u8]) {
+pub fn run(call: u64, line: &[u64; 512], bytes: &[u8], out: &mut [u8]) {
     match call {
         38 => reverse(line, bytes, out),
         39 => letters(line, bytes, out),

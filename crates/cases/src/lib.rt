@@ -1,0 +1,7 @@
+// Recorded cases of the calls on letters, words and views: each runs a call and writes what it answers as a line of numbers. What a case
+// is given, and how an answer is written, serve all cases.
+pub mod codes_cases;
+pub mod given;
+pub mod order_cases;
+pub mod print;
+pub mod views_cases;
