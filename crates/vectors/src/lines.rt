@@ -1,10 +1,10 @@
 // Lines of numbers from standard input, and the three buffers that cases speak of.
-use crate::codes_cases;
-use crate::order_cases;
-use crate::print;
 use crate::stores_cases;
 use crate::streams_cases;
-use crate::views_cases;
+use cases::inner::codes_cases;
+use cases::inner::order_cases;
+use cases::inner::print;
+use cases::inner::views_cases;
 use libc::STDIN_FILENO;
 ghost use Prim.Native.Nat.{_≤_};
 

@@ -1,13 +1,8 @@
 // Replays recorded cases: each line of standard input is numbers, the first of them the call; what the call answers is written as a
 // line of numbers. The cases, and the answers that standard output is held to, are made by oracle/record.
-mod codes_cases;
-mod given;
 mod lines;
-mod order_cases;
-mod print;
 mod stores_cases;
 mod streams_cases;
-mod views_cases;
 
 fn main() {
     lines::run_all();

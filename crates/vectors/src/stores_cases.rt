@@ -1,6 +1,6 @@
 // A store in the third buffer, with the first buffer's letters or view, at width 2 and, for any other number, at width 1.
-use crate::given::chars;
-use crate::print;
+use cases::inner::numbers::chars;
+use cases::inner::print;
 use codes::units::Chars;
 use stores::bases;
 use stores::flags;

@@ -1,7 +1,7 @@
 // Lane streams over a view of the first buffer, at width 2 and, for any other number, at width 1; flag windows.
-use crate::given::chars;
-use crate::given::number;
-use crate::print;
+use cases::inner::numbers::chars;
+use cases::inner::numbers::number;
+use cases::inner::print;
 use streams::answers::Filled;
 use streams::bases;
 use streams::flags;

@@ -3,7 +3,6 @@ use mathlib.Core.Path.{_≡_, sym, ap, ap₂, _∙_, subst}
 use Prim.Native.Nat.{ℕ, _+_, _-_, _*_, _/_, _%_, _≤_}
 use native.Mathlib.Omega.{arith}
 use borrow.Author.Needs.{needs}
-use Rattle.codes.specs.Codes.{per}
 use Rattle.lanes.specs.Lanes.{multipleAbove, starts, lane, padding}
 use Rattle.lanes.proofs.ShapeLaws.{Shaped, shaped-is, shape-ranges, group, padding-is, steps-none, steps-some}
 use Rattle.lanes.proofs.inner.shapes.numbers_of.Statement.{statement}

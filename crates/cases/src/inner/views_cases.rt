@@ -1,12 +1,12 @@
 // One view of a buffer: characters, words, letters and reverse, at width 2 and, for any other number, at width 1.
-use crate::given::chars;
-use crate::print;
+use crate::inner::numbers::chars;
+use crate::inner::print;
 use codes::units::Chars;
 use views::bases;
 use views::flags;
 use views::inner::parts::get_at;
 
-pub(crate) fn run(call: u64, line: &[u64; 512], bytes: &[u8], out: &mut [u8]) {
+pub fn run(call: u64, line: &[u64; 512], bytes: &[u8], out: &mut [u8]) {
     match call {
         38 => reverse(line, bytes, out),
         39 => letters(line, bytes, out),

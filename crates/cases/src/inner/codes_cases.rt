@@ -1,12 +1,12 @@
 // Letters and words.
-use crate::given::chars;
-use crate::given::word;
-use crate::print;
+use crate::inner::numbers::chars;
+use crate::inner::numbers::word;
+use crate::inner::print;
 use codes::letters;
 use codes::units::Chars;
 use codes::words;
 
-pub(crate) fn run(call: u64, line: &[u64; 512], text: &[u8], out: &mut [u8]) {
+pub fn run(call: u64, line: &[u64; 512], text: &[u8], out: &mut [u8]) {
     match call {
         10 => letter((line[1] % 256) as u8),
         11 => code((line[1] % 256) as u8),

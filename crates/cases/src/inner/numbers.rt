@@ -2,19 +2,19 @@
 use codes::units::Chars;
 ghost use Prim.Native.Nat.{_<_};
 
-pub(crate) fn number(line: &[u64; 512], at: usize) -> usize
+pub fn number(line: &[u64; 512], at: usize) -> usize
     requires { ⌜ at < 512 ⌝ }
 {
     line[at] as usize
 }
 
-pub(crate) fn chars(line: &[u64; 512], at: usize) -> Chars
+pub fn chars(line: &[u64; 512], at: usize) -> Chars
     requires { ⌜ at < 512 ⌝ }
 {
     Chars::new(line[at] as usize)
 }
 
-pub(crate) fn word(line: &[u64; 512], at: usize) -> u64
+pub fn word(line: &[u64; 512], at: usize) -> u64
     requires { ⌜ at < 511 ⌝ }
 {
     line[at] % 0x1_0000_0000 * 0x1_0000_0000 + line[at + 1] % 0x1_0000_0000

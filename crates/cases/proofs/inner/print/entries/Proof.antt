@@ -1,8 +1,8 @@
 -- Each index shown is within the array. Assumes nothing.
 use Prim.Native.Nat.{_≤_, _-_}
 use borrow.Author.Needs.{needs}
-use Rattle.vectors.proofs.print.entries.Statement.{statement}
-use Rattle.vectors.proofs.print.entries.Tie as tie
+use Rattle.cases.proofs.inner.print.entries.Statement.{statement}
+use Rattle.cases.proofs.inner.print.entries.Tie as tie
 
 abbrev Inv-loop : tie.InvT-loop
 Inv-loop s n i₀ i = i ≤ n

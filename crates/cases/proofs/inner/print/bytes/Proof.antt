@@ -1,10 +1,8 @@
 -- Each index is below the length. Assumes nothing.
 use Prim.Native.Nat.{_≤_, _-_}
-use native.Mathlib.Omega.{arith}
-use lib.ListN.{length}
 use borrow.Author.Needs.{needs}
-use Rattle.vectors.proofs.print.bytes.Statement.{statement}
-use Rattle.vectors.proofs.print.bytes.Tie as tie
+use Rattle.cases.proofs.inner.print.bytes.Statement.{statement}
+use Rattle.cases.proofs.inner.print.bytes.Tie as tie
 
 abbrev Inv-loop : tie.InvT-loop
 Inv-loop s i₀ i-end i = (i ≤ i-end)

@@ -1,11 +1,11 @@
 // Two views, of the first and the second buffer: comparing, finding and choosing, at width 2 and, for any other number, at width 1.
-use crate::given::chars;
-use crate::print;
+use crate::inner::numbers::chars;
+use crate::inner::print;
 use codes::units::Chars;
 use order::bases;
 use order::flags;
 
-pub(crate) fn run<'a>(call: u64, line: &[u64; 512], a: &'a [u8], b: &'a [u8]) {
+pub fn run<'a>(call: u64, line: &[u64; 512], a: &'a [u8], b: &'a [u8]) {
     let ao = chars(line, 2);
     let al = chars(line, 3);
     let bo = chars(line, 4);
