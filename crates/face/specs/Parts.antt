@@ -7,7 +7,7 @@ use lib.ListN.{length}
 use Rattle.codes.specs.Codes.{per, pick}
 use Rattle.codes.specs.Refusals.{Answer, answer, first, badEnd, badStart}
 use Rattle.order.specs.Order.{pairOutcome, pairOrder, isSecond}
-use Rattle.views.specs.Views.{viewTests, normalPart}
+use Rattle.fields.specs.Fields.{viewTests, normalPart}
 
 -- first byte, count of bytes, offset and length
 abbrev pub Part : Type 0

@@ -8,7 +8,8 @@ use Rattle.codes.specs.Refusals.{Answer}
 use Rattle.codes.specs.Answers.{symbolSays}
 use Rattle.codes.specs.declared.letters.Symbol.{Symbol}
 use Rattle.views.specs.Answers.{partSays}
-use Rattle.views.specs.Views.{Lent, made, got, sliced, normalised}
+use Rattle.fields.specs.Fields.{got}
+use Rattle.views.specs.Views.{Lent, made, sliced, normalised}
 use Rattle.views.specs.declared.view.Part.{Part}
 use Rattle.codes.proofs.Permitted.{Decided}
 use Rattle.codes.proofs.RefusalLaws.{says-once, outcomeAt, outcomeAt-number}
