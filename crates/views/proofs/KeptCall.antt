@@ -25,10 +25,10 @@ use Rattle.codes.specs.Refusals.{ifDone}
 use Rattle.codes.proofs.refusals.Outcome as O
 use Rattle.codes.proofs.refusals.Outcome.Laws as O′
 use Rattle.fields.specs.declared.inner.parts.Numbers.{Numbers}
-use Rattle.views.proofs.Held.{Sl, sv, Nm, nv}
 use Rattle.fields.proofs.inner.parts.Numbers as N
 use Rattle.fields.proofs.inner.parts.Numbers.Laws as N′
 use Rattle.fields.proofs.inner.parts.kept as kept
+use Rattle.views.proofs.Held.{Sl, sv, Nm, nv}
 
 module _ {M : Type 1} (𝓤 : URA M) (H : Heap 𝓤) (A : Atoms 𝓤) (mem : Memory → SProp 𝓤) (run : Routine → Fun 𝓤) where
   abbrev pub KeptC : Contract 𝓤

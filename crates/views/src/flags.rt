@@ -16,8 +16,8 @@ use fields::inner::parts::unless_refused;
 use fields::inner::words;
 ghost use mathlib.Core.Path.{_≡_};
 ghost use Rattle.codes.specs.Answers.{symbolSays, wordSays, word128Says};
-ghost use Rattle.views.specs.Answers.{partSays};
 ghost use Rattle.fields.specs.Fields.{got, asU64, asU128, flippedAsU64, flippedAsU128};
+ghost use Rattle.views.specs.Answers.{partSays};
 ghost use Rattle.views.specs.Views.{made, sliced, normalised, gotSliced};
 
 // A view, checked.
