@@ -13,9 +13,9 @@ use Rattle.codes.proofs.OutcomeLaws.{answer-done}
 use Rattle.codes.proofs.RefusalLaws.{outcomeAt, outcomeAt-number}
 use Rattle.order.specs.Order.{pairOutcome, pairOrder, isSecond}
 use Rattle.order.proofs.OrderLaws.{pair-views}
-use Rattle.views.specs.Answers.{numbersSay}
-use Rattle.views.specs.Views.{viewTests}
-use Rattle.views.specs.declared.inner.parts.Numbers.{Numbers}
+use Rattle.fields.specs.Answers.{numbersSay}
+use Rattle.fields.specs.Fields.{viewTests}
+use Rattle.fields.specs.declared.inner.parts.Numbers.{Numbers}
 use Rattle.given.specs.Face.{said, Part, none}
 use Rattle.face.specs.Parts.{partOf, normalisedPart, leastPart}
 

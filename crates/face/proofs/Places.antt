@@ -11,7 +11,8 @@ use Rattle.codes.specs.Refusals.{Answer, answer, first, ifDone, badEnd, badStar
 use Rattle.codes.specs.declared.refusals.Outcome.{Outcome}
 use Rattle.codes.specs.declared.refusals.Outcome.the-variants.{Done, Refused}
 use Rattle.order.specs.Order.{pairOutcome, pairOrder, isSecond, leastBytes, leastNumbers}
-use Rattle.views.specs.Views.{viewTests, Lent, lent, normalPart, made, sliced, normalised}
+use Rattle.fields.specs.Fields.{viewTests, normalPart}
+use Rattle.views.specs.Views.{Lent, lent, made, sliced, normalised}
 use Rattle.given.specs.Face.{Part, none}
 use Rattle.face.specs.Parts.{partOf, madePart, slicedPart, normalisedPart, leastPart}
 

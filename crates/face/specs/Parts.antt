@@ -8,7 +8,7 @@ use Rattle.codes.specs.Codes.{per, pick}
 use Rattle.codes.specs.Refusals.{Answer, answer, first, badEnd, badStart}
 use Rattle.given.specs.Face.{Part, none}
 use Rattle.order.specs.Order.{pairOutcome, pairOrder, isSecond}
-use Rattle.views.specs.Views.{viewTests, normalPart}
+use Rattle.fields.specs.Fields.{viewTests, normalPart}
 
 -- the normalised part of a view
 abbrev pub partOf : ℕ → List ℕ → ℕ → ℕ → Part

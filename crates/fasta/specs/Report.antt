@@ -7,7 +7,7 @@ use lib.Dec.{ltb, eqb}
 use lib.ListN.{length}
 use Rattle.codes.specs.Codes.{pick, lossy, flag}
 use Rattle.order.specs.Order.{compare}
-use Rattle.views.specs.Views.{flipped}
+use Rattle.fields.specs.Fields.{flipped}
 use Rattle.rows.specs.Columns.{decimal, sign}
 
 -- "record", "bases", "ambiguous", "strand", tabs between them; a tab is byte 9, LF byte 10

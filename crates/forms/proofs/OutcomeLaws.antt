@@ -14,7 +14,7 @@ use Rattle.codes.specs.declared.refusals.Outcome.{Outcome}
 use Rattle.codes.specs.declared.refusals.Outcome.the-variants.{Done, Refused}
 use Rattle.codes.specs.declared.refusals.Refusal.{Refusal}
 use Rattle.codes.proofs.OutcomeLaws.{answer-refused}
-use Rattle.views.specs.Views.{viewTests}
+use Rattle.fields.specs.Fields.{viewTests}
 use Rattle.forms.specs.Forms.{badTracks, formSize, writeTests}
 
 -- k tests do not hold, and the next one does, if there is one

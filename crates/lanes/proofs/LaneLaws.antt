@@ -17,9 +17,9 @@ use Rattle.codes.proofs.CharLaws.{length-chars, getD-chars}
 use Rattle.codes.proofs.FieldLaws.{charAt-is}
 use Rattle.codes.proofs.WidthLaws.{below-or}
 use Rattle.codes.proofs.WordLaws.{Below}
-use Rattle.views.specs.Views.{viewTests}
+use Rattle.fields.specs.Fields.{viewTests}
 use Rattle.codes.proofs.OutcomeLaws.{first-both}
-use Rattle.views.proofs.LoadLaws.{view-bits}
+use Rattle.fields.proofs.LoadLaws.{view-bits}
 use Rattle.lanes.specs.Lanes.{lane, steps, badShape, badDelays, laneChar, streamTests}
 use Rattle.lanes.proofs.ShapeLaws.{Shaped, shaped-is, steps-none, steps-some, not-first, none-of-two}
 

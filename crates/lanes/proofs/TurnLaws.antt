@@ -12,7 +12,7 @@ use Rattle.codes.specs.Words.{word}
 use Rattle.codes.proofs.FieldLaws.{field-of}
 use Rattle.codes.proofs.WidthLaws.{below-or, width-pos}
 use Rattle.codes.proofs.WordLaws.{Below}
-use Rattle.views.proofs.LoadLaws.{whole}
+use Rattle.fields.proofs.LoadLaws.{whole}
 use Rattle.lanes.specs.Lanes.{laneChar}
 use Rattle.lanes.specs.Written.{Written, Holds, turned}
 use Rattle.lanes.proofs.LaneLaws.{char-past, char-within, laneChar-early, laneChar-late}

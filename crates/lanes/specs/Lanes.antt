@@ -8,7 +8,7 @@ use lib.ListN.{length, getD, drop}
 use Rattle.codes.specs.Codes.{per, pick, tab}
 use Rattle.codes.specs.Refusals.{Test}
 use Rattle.codes.specs.declared.refusals.Refusal.the-variants.{BadStream}
-use Rattle.views.specs.Views.{viewTests}
+use Rattle.fields.specs.Fields.{viewTests}
 
 -- the least multiple of m at or above n
 abbrev pub multipleAbove : ℕ → ℕ → ℕ

@@ -18,7 +18,7 @@ use Rattle.codes.proofs.FieldLaws.{field-of, mod-low, charAt-is}
 use Rattle.codes.proofs.WidthLaws.{below-or, width-pos}
 use Rattle.codes.proofs.WordLaws.{Below}
 use Rattle.order.specs.Order.{common}
-use Rattle.views.proofs.LoadLaws.{Bits, view-word, whole}
+use Rattle.fields.proofs.LoadLaws.{Bits, view-word, whole}
 use Rattle.order.proofs.OrderLaws.{common-is}
 
 -- below the lowest set bit all is 0, and it is set

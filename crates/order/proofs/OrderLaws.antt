@@ -18,10 +18,10 @@ use Rattle.codes.specs.declared.refusals.Refusal.the-variants.{TooLong, BadView
 use Rattle.codes.proofs.CharLaws.{length-chars, getD-chars}
 use Rattle.codes.proofs.WidthLaws.{below-or}
 use Rattle.order.specs.Order.{pairOrder, isEqual, compare, common, pairTests}
-use Rattle.views.specs.Views.{viewTests}
+use Rattle.fields.specs.Fields.{viewTests}
 use Rattle.order.specs.declared.answers.Order.{Order}
 use Rattle.order.specs.declared.answers.Order.the-variants.{Less, Equal, Greater}
-use Rattle.views.proofs.LoadLaws.{Bits, view-bits}
+use Rattle.fields.proofs.LoadLaws.{Bits, view-bits}
 
 -- r characters are equal, and there is none behind them or it differs
 pub common-is : (xs ys : List ℕ) (r : ℕ) → r ≤ length xs → r ≤ length ys → ((j : ℕ) → j < r → getD xs j 0 ≡ getD ys j 0)

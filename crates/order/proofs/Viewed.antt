@@ -13,11 +13,11 @@ use Rattle.codes.specs.Refusals.{answer, first, ifDone, numberOf}
 use Rattle.codes.specs.declared.refusals.Outcome.{Outcome}
 use Rattle.codes.specs.declared.refusals.Outcome.the-variants.{Done}
 use Rattle.order.specs.Order.{pairOutcome, pairTests, compare, common, placeOf, orderNumber, compared, ordered, isEqual, equalled, placed, found, isSecond, leastBytes, leastNumbers}
-use Rattle.views.specs.Views.{viewTests, normalPart}
+use Rattle.fields.specs.Fields.{viewTests, normalPart}
 use Rattle.order.specs.declared.answers.Order.{Order}
 use Rattle.order.specs.declared.answers.Order.the-variants.{Less, Equal, Greater}
 use Rattle.codes.proofs.OutcomeLaws.{passed}
-use Rattle.views.proofs.PartLaws.{view-accepted, normal-chars}
+use Rattle.fields.proofs.ViewLaws.{view-accepted, normal-chars}
 use Rattle.views.proofs.Viewed.{Same, same-length}
 
 -- two accepted views are accepted together

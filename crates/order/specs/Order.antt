@@ -10,7 +10,7 @@ use lib.ListN.{length}
 use Rattle.codes.specs.Codes.{per, pick, chars}
 use Rattle.codes.specs.Refusals.{Test, Answer, answer, first, tooLong, badView, ifDone}
 use Rattle.codes.specs.declared.refusals.Outcome.{Outcome}
-use Rattle.views.specs.Views.{normalPart}
+use Rattle.fields.specs.Fields.{normalPart}
 use Rattle.order.specs.declared.answers.Order.{Order}
 use Rattle.order.specs.declared.answers.Order.the-variants.{Less, Equal, Greater}
 

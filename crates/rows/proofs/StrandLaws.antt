@@ -22,7 +22,7 @@ use Rattle.codes.proofs.WordLaws.{Below, Below-reverse, Below-through}
 use Rattle.order.proofs.AnswerLaws.{ordered-told}
 use Rattle.order.specs.Answers.{orderedSays}
 use Rattle.order.specs.Order.{compare, orderNumber, pairOutcome, ordered}
-use Rattle.views.specs.Views.{flipped}
+use Rattle.fields.specs.Fields.{flipped}
 use Rattle.writes.specs.Writes.{flipOutcome, flippedOver}
 use Rattle.order.specs.declared.answers.Order.{Order}
 use Rattle.order.specs.declared.answers.Ordered.{Ordered}

@@ -10,7 +10,7 @@ use Rattle.codes.specs.Codes.{pick}
 use Rattle.order.specs.Order.{compare}
 use Rattle.order.specs.declared.answers.Order.{Order}
 use Rattle.order.specs.declared.answers.Order.the-variants.{Less, Equal, Greater}
-use Rattle.views.specs.Views.{flipped}
+use Rattle.fields.specs.Fields.{flipped}
 
 -- a number in decimal, in at most k digits
 unfoldable pub decimalIn : ℕ → ℕ → List ℕ

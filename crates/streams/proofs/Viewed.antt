@@ -9,7 +9,7 @@ use Rattle.codes.specs.Refusals.{Test, answer, first, ifDone}
 use Rattle.codes.specs.declared.refusals.Outcome.{Outcome}
 use Rattle.codes.specs.declared.refusals.Outcome.the-variants.{Done}
 use Rattle.codes.proofs.CharLaws.{length-chars}
-use Rattle.views.specs.Views.{viewTests}
+use Rattle.fields.specs.Fields.{viewTests}
 use Rattle.codes.proofs.OutcomeLaws.{first-done}
 use Rattle.lanes.specs.Lanes.{lane, padding, steps, badShape, badDelays, lanes, filled}
 use Rattle.streams.specs.Streams.{badStep, roomTests, fillOutcome, fillAnswer, fillAfter, stepOutcome, stepLanes}

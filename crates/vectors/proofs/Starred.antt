@@ -15,7 +15,7 @@ use Rattle.stores.specs.Stores.{span, pushSeq}
 use Rattle.lanes.specs.Lanes.{lane, padding, steps}
 use Rattle.streams.specs.Streams.{shaped}
 use Rattle.order.specs.Order.{compare, common, orderNumber}
-use Rattle.views.specs.Views.{viewTests}
+use Rattle.fields.specs.Fields.{viewTests}
 
 -- the codes of text
 abbrev codes : List ℕ → List ℕ

@@ -7,12 +7,13 @@ use mathlib.Core.List.{List}
 use Rattle.codes.specs.Refusals.{Answer}
 use Rattle.codes.specs.Answers.{symbolSays}
 use Rattle.codes.specs.declared.letters.Symbol.{Symbol}
-use Rattle.views.specs.Answers.{partSays}
-use Rattle.views.specs.Views.{Lent, made, got, sliced, normalised}
-use Rattle.views.specs.declared.view.Part.{Part}
 use Rattle.codes.proofs.Permitted.{Decided}
 use Rattle.codes.proofs.RefusalLaws.{says-once, outcomeAt, outcomeAt-number}
 use Rattle.codes.proofs.AnswerLaws.{symbol-told, word-told, word128-told}
+use Rattle.fields.specs.Fields.{got}
+use Rattle.views.specs.Answers.{partSays}
+use Rattle.views.specs.Views.{Lent, made, sliced, normalised}
+use Rattle.views.specs.declared.view.Part.{Part}
 use Rattle.views.proofs.bases.get_sliced.Kinds as bases-get-sliced·kinds
 use Rattle.views.proofs.bases.get_sliced.Reads as bases-get-sliced
 use Rattle.views.proofs.bases.as_u64.Kinds as bases-as-u64·kinds

@@ -42,12 +42,12 @@ use Rattle.codes.proofs.letters.Symbol as S
 use Rattle.codes.proofs.letters.Symbol.Laws as S′
 use Rattle.codes.proofs.units.Chars as Cs
 use Rattle.codes.proofs.units.Chars.Laws as C′
-use Rattle.views.specs.Views.{got}
+use Rattle.fields.specs.Fields.{got}
+use Rattle.fields.proofs.inner.parts.get_at as callee
+use Rattle.fields.proofs.inner.parts.get_at.Symbol.{name as #get-at}
 use Rattle.views.specs.declared.view.View.{View}
 use Rattle.views.proofs.Held.{Vw, Dv, Lv, Ch, Sl, sv, slice-ty, ch-copy, view-copy, lends}
 use Rattle.views.proofs.view.View.Laws as T′
-use Rattle.views.proofs.inner.parts.get_at as callee
-use Rattle.views.proofs.inner.parts.get_at.Symbol.{name as #get-at}
 use Rattle.views.proofs.bases.get as get
 
 -- the parameters' types

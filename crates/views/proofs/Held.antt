@@ -27,12 +27,12 @@ use denote.Struct.Laws as LL
 use denote.Struct.Rest.{all-own, own-open, own-shut}
 use Rattle.codes.proofs.units.Chars as C
 use Rattle.codes.proofs.units.Chars.Laws as C′
-use Rattle.views.specs.declared.inner.parts.Numbers.{Numbers}
+use Rattle.fields.specs.declared.inner.parts.Numbers.{Numbers}
+use Rattle.fields.proofs.inner.parts.Numbers as N
+use Rattle.fields.proofs.inner.parts.Numbers.Laws as N′
 use Rattle.views.specs.declared.view.Part.{Part}
 use Rattle.views.specs.declared.view.View.{View}
 use Rattle.views.proofs.PartLaws.{view-of, part-of}
-use Rattle.views.proofs.inner.parts.Numbers as N
-use Rattle.views.proofs.inner.parts.Numbers.Laws as N′
 use Rattle.views.proofs.view.Part as P
 use Rattle.views.proofs.view.Part.Laws as P′
 use Rattle.views.proofs.view.View as T

@@ -24,11 +24,11 @@ use denote.Triple.Clauses.{ensured, lasts}
 use Rattle.codes.specs.Refusals.{ifDone}
 use Rattle.codes.proofs.refusals.Outcome as O
 use Rattle.codes.proofs.refusals.Outcome.Laws as O′
-use Rattle.views.specs.declared.inner.parts.Numbers.{Numbers}
+use Rattle.fields.specs.declared.inner.parts.Numbers.{Numbers}
+use Rattle.fields.proofs.inner.parts.Numbers as N
+use Rattle.fields.proofs.inner.parts.Numbers.Laws as N′
+use Rattle.fields.proofs.inner.parts.kept as kept
 use Rattle.views.proofs.Held.{Sl, sv, Nm, nv}
-use Rattle.views.proofs.inner.parts.Numbers as N
-use Rattle.views.proofs.inner.parts.Numbers.Laws as N′
-use Rattle.views.proofs.inner.parts.kept as kept
 
 module _ {M : Type 1} (𝓤 : URA M) (H : Heap 𝓤) (A : Atoms 𝓤) (mem : Memory → SProp 𝓤) (run : Routine → Fun 𝓤) where
   abbrev pub KeptC : Contract 𝓤

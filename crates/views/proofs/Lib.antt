@@ -1,6 +1,4 @@
 pub mod PartLaws
-pub mod LoadLaws
-pub mod FlipLaws
 pub mod Held
 pub mod KeptCall
 pub mod MakeWalk

@@ -42,21 +42,23 @@ use Rattle.codes.specs.Refusals.{answer, first}
 use Rattle.codes.specs.declared.units.Chars.{Chars}
 use Rattle.codes.proofs.units.Chars as Cs
 use Rattle.codes.proofs.units.Chars.Laws as C′
-use Rattle.views.specs.Answers.{numbersSay, partSays}
-use Rattle.views.specs.Views.{viewTests, made}
-use Rattle.views.specs.declared.inner.parts.Numbers.{Numbers}
+use Rattle.fields.specs.Answers.{numbersSay}
+use Rattle.fields.specs.Fields.{viewTests}
+use Rattle.fields.specs.declared.inner.parts.Numbers.{Numbers}
+use Rattle.fields.proofs.inner.parts.Numbers as N
+use Rattle.fields.proofs.inner.parts.Numbers.Laws as N′
+use Rattle.fields.proofs.inner.parts.made_numbers as numbers
+use Rattle.fields.proofs.inner.parts.made_numbers.Symbol.{name as #made-numbers}
+use Rattle.fields.proofs.inner.parts.kept as kept
+use Rattle.fields.proofs.inner.parts.kept.Symbol.{name as #kept}
+use Rattle.views.specs.Answers.{partSays}
+use Rattle.views.specs.Views.{made}
 use Rattle.views.proofs.Held.{Ch, Sl, sv, slice-ty, Nm, nv, Dp, Lp, pv, αᵉ, is-view, is-part, ch-copy, shut}
 use Rattle.views.proofs.PartLaws.{part-of, view-of, made-says}
-use Rattle.views.proofs.inner.parts.Numbers as N
-use Rattle.views.proofs.inner.parts.Numbers.Laws as N′
 use Rattle.views.proofs.view.Part.Laws as P′
 use Rattle.views.proofs.view.View as T
 use Rattle.views.proofs.view.View.Laws as T′
-use Rattle.views.proofs.inner.parts.made_numbers as numbers
-use Rattle.views.proofs.inner.parts.made_numbers.Symbol.{name as #made-numbers}
 use Rattle.views.proofs.KeptCall.{KeptC, kept-args, kept-to, Kept, kept-said, kept-goes}
-use Rattle.views.proofs.inner.parts.kept as kept
-use Rattle.views.proofs.inner.parts.kept.Symbol.{name as #kept}
 use Rattle.views.proofs.bases.view as view
 
 abbrev Ps : Lft → List RattleType

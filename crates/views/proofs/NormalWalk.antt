@@ -38,21 +38,23 @@ use denote.Exit.{yes}
 use Rattle.codes.specs.Codes.{IsWidth, per}
 use Rattle.codes.specs.Refusals.{answer, first, ifDone}
 use Rattle.codes.proofs.units.Chars.Laws as C′
-use Rattle.views.specs.Answers.{numbersSay, partSays}
-use Rattle.views.specs.Views.{viewTests, normalPart, normalised}
-use Rattle.views.specs.declared.inner.parts.Numbers.{Numbers}
+use Rattle.fields.specs.Answers.{numbersSay}
+use Rattle.fields.specs.Fields.{viewTests, normalPart}
+use Rattle.fields.specs.declared.inner.parts.Numbers.{Numbers}
+use Rattle.fields.proofs.inner.parts.Numbers as N
+use Rattle.fields.proofs.inner.parts.Numbers.Laws as N′
+use Rattle.fields.proofs.inner.parts.normal_numbers as numbers
+use Rattle.fields.proofs.inner.parts.normal_numbers.Symbol.{name as #normal-numbers}
+use Rattle.fields.proofs.inner.parts.normal_part as bytes
+use Rattle.fields.proofs.inner.parts.normal_part.Symbol.{name as #normal-part}
+use Rattle.views.specs.Answers.{partSays}
+use Rattle.views.specs.Views.{normalised}
 use Rattle.views.specs.declared.view.View.{View}
 use Rattle.views.proofs.Held.{Vw, Dv, Lv, Ch, Sl, sv, slice-ty, Nm, nv, Dp, Lp, pv, αᵉ, is-view, is-part, view-copy, lends, shut}
 use Rattle.views.proofs.PartLaws.{part-of, view-of, normalised-says}
-use Rattle.views.proofs.inner.parts.Numbers as N
-use Rattle.views.proofs.inner.parts.Numbers.Laws as N′
 use Rattle.views.proofs.view.Part.Laws as P′
 use Rattle.views.proofs.view.View as T
 use Rattle.views.proofs.view.View.Laws as T′
-use Rattle.views.proofs.inner.parts.normal_numbers as numbers
-use Rattle.views.proofs.inner.parts.normal_numbers.Symbol.{name as #normal-numbers}
-use Rattle.views.proofs.inner.parts.normal_part as bytes
-use Rattle.views.proofs.inner.parts.normal_part.Symbol.{name as #normal-part}
 use Rattle.views.proofs.bases.normalise as normalise
 
 abbrev Ps : Lft → List RattleType

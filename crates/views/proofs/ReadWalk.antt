@@ -50,15 +50,16 @@ use Rattle.codes.proofs.refusals.Outcome.Laws as O′
 use Rattle.codes.proofs.letters.Symbol.Laws as S′
 use Rattle.codes.proofs.units.Chars as Cs
 use Rattle.codes.proofs.units.Chars.Laws as C′
+use Rattle.fields.specs.Fields.{viewTests}
+use Rattle.fields.proofs.inner.parts.slice_outcome as outcome
+use Rattle.fields.proofs.inner.parts.slice_outcome.Symbol.{name as #slice-outcome}
+use Rattle.fields.proofs.inner.parts.unless_refused as unless
+use Rattle.fields.proofs.inner.parts.unless_refused.Symbol.{name as #unless-refused}
 use Rattle.views.specs.Answers.{partSays}
-use Rattle.views.specs.Views.{viewTests, Lent, made, gotSliced}
+use Rattle.views.specs.Views.{Lent, made, gotSliced}
 use Rattle.views.specs.declared.view.Part.{Part}
 use Rattle.views.proofs.Held.{Vw, Ch, Sl, sv, Pt, Dp, Lp, part-val, αᵉ, ch-copy, part-view}
 use Rattle.views.proofs.SliceLaws.{gotOf, slicedOf, normalisedOf, gotSliced-is}
-use Rattle.views.proofs.inner.parts.slice_outcome as outcome
-use Rattle.views.proofs.inner.parts.slice_outcome.Symbol.{name as #slice-outcome}
-use Rattle.views.proofs.inner.parts.unless_refused as unless
-use Rattle.views.proofs.inner.parts.unless_refused.Symbol.{name as #unless-refused}
 use Rattle.views.proofs.view.Part as P
 use Rattle.views.proofs.view.Part.Laws as P′
 use Rattle.views.proofs.view.View as T

@@ -16,9 +16,10 @@ use Rattle.codes.specs.declared.refusals.Outcome.the-variants.{Done, Refused}
 use Rattle.codes.specs.declared.refusals.Refusal.the-variants.{TooLong, BadView, BadRange}
 use Rattle.codes.proofs.CharLaws.{length-chars, chars-append}
 use Rattle.codes.proofs.WidthLaws.{up-hi, below-or}
-use Rattle.views.specs.Views.{viewTests, Lent, lent, normalPart, got, made, sliced, normalised, gotSliced}
 use Rattle.codes.proofs.OutcomeLaws.{first-next, first-holds, first-done, first-refused, first-both}
-use Rattle.views.proofs.PartLaws.{Room, view-accepted, slice-cut, room-start, room-end, normal-chars}
+use Rattle.fields.specs.Fields.{viewTests, normalPart, got}
+use Rattle.fields.proofs.ViewLaws.{Room, view-accepted, slice-cut, room-start, room-end, normal-chars}
+use Rattle.views.specs.Views.{Lent, lent, made, sliced, normalised, gotSliced}
 
 -- a part is an accepted view with these characters
 pub record Holds (w : ℕ) (cs : List ℕ) (p : Lent) : Type 0 where

@@ -40,22 +40,24 @@ use Rattle.codes.specs.Refusals.{answer, first, badEnd, badStart}
 use Rattle.codes.specs.declared.units.Chars.{Chars}
 use Rattle.codes.proofs.units.Chars as Cs
 use Rattle.codes.proofs.units.Chars.Laws as C′
-use Rattle.views.specs.Answers.{numbersSay, partSays}
-use Rattle.views.specs.Views.{viewTests, sliced}
-use Rattle.views.specs.declared.inner.parts.Numbers.{Numbers}
+use Rattle.fields.specs.Answers.{numbersSay}
+use Rattle.fields.specs.Fields.{viewTests}
+use Rattle.fields.specs.declared.inner.parts.Numbers.{Numbers}
+use Rattle.fields.proofs.inner.parts.Numbers as N
+use Rattle.fields.proofs.inner.parts.Numbers.Laws as N′
+use Rattle.fields.proofs.inner.parts.slice_numbers as numbers
+use Rattle.fields.proofs.inner.parts.slice_numbers.Symbol.{name as #slice-numbers}
+use Rattle.fields.proofs.inner.parts.kept as kept
+use Rattle.fields.proofs.inner.parts.kept.Symbol.{name as #kept}
+use Rattle.views.specs.Answers.{partSays}
+use Rattle.views.specs.Views.{sliced}
 use Rattle.views.specs.declared.view.View.{View}
 use Rattle.views.proofs.Held.{Vw, Dv, Lv, Ch, Sl, sv, slice-ty, Nm, nv, Dp, Lp, pv, αᵉ, is-view, is-part, ch-copy, view-copy, lends, shut}
 use Rattle.views.proofs.PartLaws.{part-of, view-of, sliced-says}
-use Rattle.views.proofs.inner.parts.Numbers as N
-use Rattle.views.proofs.inner.parts.Numbers.Laws as N′
 use Rattle.views.proofs.view.Part.Laws as P′
 use Rattle.views.proofs.view.View as T
 use Rattle.views.proofs.view.View.Laws as T′
-use Rattle.views.proofs.inner.parts.slice_numbers as numbers
-use Rattle.views.proofs.inner.parts.slice_numbers.Symbol.{name as #slice-numbers}
 use Rattle.views.proofs.KeptCall.{KeptC, kept-args, kept-to, Kept, kept-said, kept-goes}
-use Rattle.views.proofs.inner.parts.kept as kept
-use Rattle.views.proofs.inner.parts.kept.Symbol.{name as #kept}
 use Rattle.views.proofs.bases.slice as slice
 
 abbrev Ps : Lft → List RattleType

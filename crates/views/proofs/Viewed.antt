@@ -11,8 +11,9 @@ use Rattle.codes.specs.Words.{word}
 use Rattle.codes.specs.declared.refusals.Outcome.{Outcome}
 use Rattle.codes.specs.declared.refusals.Outcome.the-variants.{Done}
 use Rattle.codes.proofs.CharLaws.{length-chars}
-use Rattle.views.specs.Views.{viewTests, got, gotSliced, asU64, asU128, flipped, flippedAsU64, flippedAsU128}
 use Rattle.codes.proofs.OutcomeLaws.{first-done}
+use Rattle.fields.specs.Fields.{viewTests, got, asU64, asU128, flipped, flippedAsU64, flippedAsU128}
+use Rattle.views.specs.Views.{gotSliced}
 
 -- two accepted views of width w with equal characters
 pub record Same (w : ℕ) (bs : List ℕ) (o m : ℕ) (cs : List ℕ) (p n : ℕ) : Type 0 where

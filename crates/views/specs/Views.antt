@@ -1,20 +1,11 @@
--- Views: bytes, an offset and a length, whose meaning is the list of their characters; what each call on one view answers.
+-- Parts of views that are handed back: what making, slicing and normalising a view answer, and what reading a slice does.
 -- Assumes nothing.
-use mathlib.Core.List.{List, [], _∷_, _++_, map, reverse}
-use Prim.Native.Nat.{ℕ, _+_, _-_, _/_, _%_}
-use lib.ListN.{length, getD, take, drop}
-use Rattle.codes.specs.Answers.{halves}
-use Rattle.codes.specs.Codes.{per, up, chars, complement}
-use Rattle.codes.specs.Refusals.{Test, Answer, answer, first, tooLong, badView, badIndex, badEnd, badStart, badWord}
-use Rattle.codes.specs.Words.{word}
-
--- the refusals of a view of n bytes
-abbrev pub viewTests : ℕ → ℕ → ℕ → ℕ → List Test
-viewTests w n o len = tooLong n ∷ badView w n o len ∷ []
-
--- the character at an index
-unfoldable pub got : ℕ → List ℕ → ℕ → ℕ → ℕ → Answer ℕ
-got w bs o len i = answer (first (viewTests w (length bs) o len ++ badIndex len i ∷ [])) (getD (chars w bs o len) i 0) 0
+use mathlib.Core.List.{List, [], _∷_, _++_}
+use Prim.Native.Nat.{ℕ, _+_, _-_, _%_}
+use lib.ListN.{length, getD}
+use Rattle.codes.specs.Codes.{per, chars}
+use Rattle.codes.specs.Refusals.{Answer, answer, first, badIndex, badEnd, badStart}
+use Rattle.fields.specs.Fields.{viewTests, normalPart}
 
 -- a part that is handed back: its bytes, its offset and its length
 pub record Lent : Type 0 where
@@ -24,14 +15,6 @@ pub record Lent : Type 0 where
 
 abbrev pub lent : List ℕ → ℕ → ℕ → Lent
 lent bs o len = record { bytes = bs; offset = o; len = len }
-
--- the part from byte a up to byte e
-abbrev pub part : ℕ → ℕ → List ℕ → List ℕ
-part a e bs = take (e - a) (drop a bs)
-
--- from byte offset / C8 to byte ceil((offset + length) / C8) + 48
-abbrev pub normalPart : ℕ → List ℕ → ℕ → ℕ → List ℕ
-normalPart w bs o len = part (o / per w) (up w (o + len) + 48) bs
 
 -- a view is made; an empty part where it is refused, as in the two below
 unfoldable pub made : ℕ → List ℕ → ℕ → ℕ → Answer Lent
@@ -50,22 +33,3 @@ normalised w bs o len = answer (first (viewTests w (length bs) o len)) (lent (no
 unfoldable pub gotSliced : ℕ → List ℕ → ℕ → ℕ → ℕ → ℕ → ℕ → Answer ℕ
 gotSliced w bs o len start end i =
     answer (first (viewTests w (length bs) o len ++ badEnd len end ∷ badStart start end ∷ badIndex (end - start) i ∷ [])) (getD (chars w bs o len) (start + i) 0) 0
-
--- a view's word takes lengths up to 64 / w; in two halves, up to 128 / w
-unfoldable pub asU64 : ℕ → List ℕ → ℕ → ℕ → Answer ℕ
-asU64 w bs o len = answer (first (viewTests w (length bs) o len ++ badWord 0 (64 / w) len ∷ [])) (word w (chars w bs o len)) 0
-
-unfoldable pub asU128 : ℕ → List ℕ → ℕ → ℕ → Answer (ℕ × ℕ)
-asU128 w bs o len = answer (first (viewTests w (length bs) o len ++ badWord 0 (128 / w) len ∷ [])) (halves (word w (chars w bs o len))) (0, 0)
-
--- characters in reverse, bases complemented
-abbrev pub flipped : ℕ → List ℕ → List ℕ
-flipped w cs = reverse (map (complement w) cs)
-
--- its reversed word needs length 1 or more
-unfoldable pub flippedAsU64 : ℕ → List ℕ → ℕ → ℕ → Answer ℕ
-flippedAsU64 w bs o len = answer (first (viewTests w (length bs) o len ++ badWord 1 (64 / w) len ∷ [])) (word w (flipped w (chars w bs o len))) 0
-
-unfoldable pub flippedAsU128 : ℕ → List ℕ → ℕ → ℕ → Answer (ℕ × ℕ)
-flippedAsU128 w bs o len =
-    answer (first (viewTests w (length bs) o len ++ badWord 1 (128 / w) len ∷ [])) (halves (word w (flipped w (chars w bs o len)))) (0, 0)

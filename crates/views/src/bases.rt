@@ -1,23 +1,24 @@
 // Views of bases: every call at width 2.
-use crate::inner::parts::get_at;
-use crate::inner::parts::kept;
-use crate::inner::parts::made_numbers;
-use crate::inner::parts::normal_numbers;
-use crate::inner::parts::normal_part;
-use crate::inner::parts::slice_numbers;
-use crate::inner::parts::slice_outcome;
-use crate::inner::parts::unless_refused;
-use crate::inner::words;
 use crate::view::Part;
 use crate::view::View;
 use codes::letters::Symbol;
 use codes::units::Chars;
 use codes::words::Word;
 use codes::words::Word128;
+use fields::inner::parts::get_at;
+use fields::inner::parts::kept;
+use fields::inner::parts::made_numbers;
+use fields::inner::parts::normal_numbers;
+use fields::inner::parts::normal_part;
+use fields::inner::parts::slice_numbers;
+use fields::inner::parts::slice_outcome;
+use fields::inner::parts::unless_refused;
+use fields::inner::words;
 ghost use mathlib.Core.Path.{_≡_};
 ghost use Rattle.codes.specs.Answers.{symbolSays, wordSays, word128Says};
+ghost use Rattle.fields.specs.Fields.{got, asU64, asU128, flippedAsU64, flippedAsU128};
 ghost use Rattle.views.specs.Answers.{partSays};
-ghost use Rattle.views.specs.Views.{made, got, sliced, normalised, asU64, asU128, flippedAsU64, flippedAsU128, gotSliced};
+ghost use Rattle.views.specs.Views.{made, sliced, normalised, gotSliced};
 
 // A view, checked.
 pub fn view<'a>(bytes: &'a [u8], offset: Chars, len: Chars) -> Part<'a>

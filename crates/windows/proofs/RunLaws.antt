@@ -19,7 +19,7 @@ use Rattle.codes.specs.declared.refusals.Refusal.{Refusal}
 use Rattle.codes.specs.declared.refusals.Refusal.the-variants.{BadStream}
 use Rattle.codes.proofs.TabLaws.{getD-tab, tab-ext, Below-tab, Below-getD}
 use Rattle.codes.proofs.WordLaws.{Below}
-use Rattle.views.specs.Views.{viewTests}
+use Rattle.fields.specs.Fields.{viewTests}
 use Rattle.codes.proofs.OutcomeLaws.{first-both, first-refused}
 use Rattle.lanes.specs.Lanes.{lane, steps, badShape, laneChar, lanes}
 use Rattle.streams.specs.Streams.{badStep}

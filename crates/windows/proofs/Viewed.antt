@@ -8,7 +8,7 @@ use Rattle.codes.specs.Codes.{chars}
 use Rattle.codes.specs.Refusals.{answer, first, ifDone, noRoom}
 use Rattle.codes.specs.declared.refusals.Outcome.{Outcome}
 use Rattle.codes.specs.declared.refusals.Outcome.the-variants.{Done}
-use Rattle.views.specs.Views.{viewTests}
+use Rattle.fields.specs.Fields.{viewTests}
 use Rattle.lanes.specs.Lanes.{lane, padding, steps, badShape}
 use Rattle.streams.specs.Streams.{badStep}
 use Rattle.windows.specs.Windows.{badWindow, badSkip, badState, windowsFilled, Running, stepAnswers, stepState, windowsOutcome, windowsAnswer, windowsAfter, runOutcome, runAnswers, runState}

@@ -10,7 +10,7 @@ use Rattle.codes.specs.Refusals.{Test, Answer, answer, first, ifDone, noRoom}
 use Rattle.codes.specs.Windows.{window}
 use Rattle.codes.specs.declared.refusals.Outcome.{Outcome}
 use Rattle.codes.specs.declared.refusals.Refusal.the-variants.{BadStream}
-use Rattle.views.specs.Views.{viewTests}
+use Rattle.fields.specs.Fields.{viewTests}
 use Rattle.lanes.specs.Lanes.{lane, padding, steps, badShape, laneChar}
 use Rattle.streams.specs.Streams.{badStep}
 

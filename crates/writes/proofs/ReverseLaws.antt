@@ -14,12 +14,12 @@ use Rattle.codes.proofs.CharLaws.{length-chars, chars-fit}
 use Rattle.codes.proofs.FieldLaws.{mod-low}
 use Rattle.codes.proofs.WidthLaws.{width-pos}
 use Rattle.codes.proofs.WordLaws.{Below, flip-add, flip-lt, flip-short, flip-fits, flip-mod, flip-from, charsOf-add, charsOf-mod, length-charsOf, charsOf-take, Below-reverse, Below-through}
-use Rattle.views.specs.Views.{flipped}
+use Rattle.fields.specs.Fields.{flipped}
 use Rattle.writes.specs.Writes.{flippedOver}
-use Rattle.views.proofs.LoadLaws.{whole}
+use Rattle.fields.proofs.LoadLaws.{whole}
 use Rattle.codes.specs.Zeros.{Zeroed}
 use Rattle.writes.proofs.WriteLaws.{sets-at, packed-is, zeroed-is}
-use Rattle.views.proofs.FlipLaws.{complement-fits, shift-is, flip-field}
+use Rattle.fields.proofs.FlipLaws.{complement-fits, shift-is, flip-field}
 
 -- only a word's low characters count in its flip
 flip-low : (w : ℕ) (f : ℕ → ℕ) (k n x : ℕ) → w * k ≤ n → flip w f k (x % 2 ^ n) ≡ flip w f k x

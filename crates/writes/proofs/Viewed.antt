@@ -7,7 +7,7 @@ use lib.ListN.{length, drop, replicate}
 use Rattle.codes.specs.Codes.{up, letter}
 use Rattle.codes.specs.Refusals.{noRoom}
 use Rattle.codes.specs.Words.{packed}
-use Rattle.views.specs.Views.{flipped}
+use Rattle.fields.specs.Fields.{flipped}
 use Rattle.writes.specs.Writes.{unpackOutcome, unpackedOver, flipOutcome, flippedOver}
 use Rattle.views.proofs.Viewed.{Same, viewed}
 

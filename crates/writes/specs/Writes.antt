@@ -7,7 +7,7 @@ use Rattle.codes.specs.Codes.{up, chars, letter}
 use Rattle.codes.specs.Refusals.{first, noRoom}
 use Rattle.codes.specs.Words.{packed}
 use Rattle.codes.specs.declared.refusals.Outcome.{Outcome}
-use Rattle.views.specs.Views.{viewTests, flipped}
+use Rattle.fields.specs.Fields.{viewTests, flipped}
 
 -- unpacking writes the capital letters of bases; later bytes stay
 unfoldable pub unpackOutcome : List ℕ → ℕ → ℕ → List ℕ → Outcome

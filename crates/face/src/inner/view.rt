@@ -1,11 +1,11 @@
 // One view, at any width.
 use codes::letters::Symbol;
 use codes::units::Chars;
+use fields::inner::parts::get_at;
+use fields::inner::words;
 use given::inner::give;
 use views::bases;
 use views::flags;
-use views::inner::parts::get_at;
-use views::inner::words;
 use writes::inner::letters::unpack_view;
 use writes::inner::reverse;
 ghost use mathlib.Core.Path.{_≡_};
@@ -14,7 +14,8 @@ ghost use Rattle.codes.specs.Answers.{symbolSays};
 ghost use Rattle.codes.specs.Codes.{IsWidth};
 ghost use Rattle.codes.specs.Refusals.{ifDone, numberOf};
 ghost use Rattle.given.specs.Face.{said};
-ghost use Rattle.views.specs.Views.{got, gotSliced, asU64, asU128, flippedAsU64, flippedAsU128};
+ghost use Rattle.fields.specs.Fields.{got, asU64, asU128, flippedAsU64, flippedAsU128};
+ghost use Rattle.views.specs.Views.{gotSliced};
 ghost use Rattle.writes.specs.Writes.{unpackOutcome, unpackedOver, flipOutcome, flippedOver};
 
 pub fn get(w: usize, bytes: &[u8], offset: usize, len: usize, i: usize, code: &mut u8) -> u32

@@ -4,7 +4,7 @@ use codes::inner::counts::byte_of;
 use codes::inner::counts::within_byte;
 use codes::inner::tracks::zero_run;
 use codes::units::Chars;
-use views::inner::loads::bits_at;
+use fields::inner::loads::bits_at;
 ghost use mathlib.Core.List.{_++_};
 ghost use mathlib.Core.Path.{_≡_};
 ghost use Prim.Native.Nat.{_+_, _≤_};
@@ -14,7 +14,7 @@ ghost use Rattle.codes.specs.Refusals.{first};
 ghost use Rattle.codes.specs.Words.{charsOf, packed};
 ghost use Rattle.codes.specs.declared.refusals.Outcome.the-variants.{Done};
 ghost use Rattle.forms.specs.Forms.{spareClear, filledWith};
-ghost use Rattle.views.specs.Views.{viewTests};
+ghost use Rattle.fields.specs.Fields.{viewTests};
 
 // Writes the k low bytes of x at `at`.
 fn put_bytes(x: u64, k: usize, out: &mut [u8], at: usize)

@@ -18,7 +18,7 @@ ghost use Rattle.codes.specs.Refusals.{first};
 ghost use Rattle.codes.specs.declared.refusals.Outcome.the-variants.{Done};
 ghost use Rattle.forms.specs.Forms.{formSize, stored, writeTests};
 ghost use Rattle.forms.specs.Numbers.{spelt};
-ghost use Rattle.views.specs.Views.{viewTests};
+ghost use Rattle.fields.specs.Fields.{viewTests};
 
 // The bytes of a form.
 pub fn form_size(len: Chars) -> Bytes

@@ -1,12 +1,12 @@
 // Single steps: the eight lanes of a step, each character read from the view.
-use views::inner::loads::bits_at;
+use fields::inner::loads::bits_at;
 ghost use mathlib.Core.Path.{_≡_};
 ghost use Prim.Native.Nat.{_^_, _≤_, _<_};
 ghost use lib.ListN.{length};
 ghost use Rattle.codes.specs.Codes.{IsWidth, chars};
 ghost use Rattle.codes.specs.Refusals.{first};
 ghost use Rattle.codes.specs.declared.refusals.Outcome.the-variants.{Done};
-ghost use Rattle.views.specs.Views.{viewTests};
+ghost use Rattle.fields.specs.Fields.{viewTests};
 ghost use Rattle.lanes.specs.Lanes.{laneChar, lanes};
 
 pub fn narrow(x: u64) -> u32

@@ -4,7 +4,7 @@ use crate::inner::shapes::bad_shape;
 use codes::refusals::Outcome;
 use codes::refusals::Refusal;
 use codes::units::Chars;
-use views::inner::parts::view_outcome;
+use fields::inner::parts::view_outcome;
 ghost use mathlib.Core.Path.{_≡_};
 ghost use Rattle.codes.specs.Codes.{IsWidth};
 ghost use Rattle.codes.specs.Refusals.{first};

@@ -1,14 +1,14 @@
 // Turns: each lane's next 64 bits in one word, and the characters of eight such words side by side.
 use crate::inner::eight::narrow;
 use codes::inner::bits::low_bits;
-use views::inner::loads::bits_at;
+use fields::inner::loads::bits_at;
 ghost use mathlib.Core.Path.{_≡_};
 ghost use Prim.Native.Nat.{ℕ, _+_, _-_, _*_, _/_, _%_, _^_, _≤_, _<_};
 ghost use lib.ListN.{length, getD};
 ghost use Rattle.codes.specs.Codes.{IsWidth, chars};
 ghost use Rattle.codes.specs.Refusals.{first};
 ghost use Rattle.codes.specs.declared.refusals.Outcome.the-variants.{Done};
-ghost use Rattle.views.specs.Views.{viewTests};
+ghost use Rattle.fields.specs.Fields.{viewTests};
 ghost use Rattle.lanes.specs.Written.{Written, Holds, turned};
 
 // The characters from character i of the view on, as many as 64 bits hold; zeros from the end on.

@@ -7,7 +7,7 @@ use crate::inner::pairs::pair_outcome;
 use codes::inner::tracks::char_at;
 use codes::refusals::Outcome;
 use codes::units::Chars;
-use views::inner::loads::peek;
+use fields::inner::loads::peek;
 ghost use mathlib.Core.Path.{_≡_};
 ghost use Prim.Native.Nat.{min};
 ghost use Rattle.codes.specs.Codes.{IsWidth, chars};

@@ -6,7 +6,7 @@ use crate::inner::pairs::pair_outcome;
 use codes::inner::counts::within_byte;
 use codes::refusals::Outcome;
 use codes::units::Chars;
-use views::inner::parts::accepted_part;
+use fields::inner::parts::accepted_part;
 ghost use mathlib.Core.Path.{_≡_};
 ghost use Rattle.codes.specs.Codes.{IsWidth};
 ghost use Rattle.order.specs.Answers.{leastSays};

@@ -1,5 +1,5 @@
 // Set flags counted, 64 at a time.
-use views::inner::loads::bits_at;
+use fields::inner::loads::bits_at;
 ghost use mathlib.Core.Path.{_≡_};
 ghost use Prim.Native.Nat.{_+_, _/_, _≤_};
 ghost use lib.ListN.{length};

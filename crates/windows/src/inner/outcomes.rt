@@ -2,8 +2,8 @@
 use codes::refusals::Outcome;
 use codes::refusals::Refusal;
 use codes::units::Chars;
+use fields::inner::parts::view_outcome;
 use lanes::inner::shapes::bad_shape;
-use views::inner::parts::view_outcome;
 ghost use mathlib.Core.Path.{_≡_};
 ghost use Rattle.codes.specs.Refusals.{first};
 ghost use Rattle.windows.specs.Windows.{windowTests, badWindow};

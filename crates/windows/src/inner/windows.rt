@@ -14,7 +14,7 @@ ghost use lib.ListN.{length};
 ghost use Rattle.codes.specs.Codes.{chars};
 ghost use Rattle.codes.specs.Refusals.{first};
 ghost use Rattle.codes.specs.declared.refusals.Outcome.the-variants.{Done};
-ghost use Rattle.views.specs.Views.{viewTests};
+ghost use Rattle.fields.specs.Fields.{viewTests};
 ghost use Rattle.lanes.specs.Lanes.{lane, steps};
 ghost use Rattle.windows.specs.Windows.{windowTests, windowsFilled, windowsAnswer, windowsAfter};
 ghost use Rattle.streams.specs.Answers.{filledSays};

@@ -3,7 +3,7 @@ use codes::inner::tracks::digit;
 use codes::refusals::Outcome;
 use codes::refusals::Refusal;
 use codes::units::Chars;
-use views::inner::parts::view_outcome;
+use fields::inner::parts::view_outcome;
 ghost use mathlib.Core.Path.{_≡_};
 ghost use Prim.Native.Nat.{_+_, _-_, _*_, _%_, _^_, _≤_};
 ghost use lib.ListN.{length};

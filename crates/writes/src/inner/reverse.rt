@@ -5,9 +5,9 @@ use codes::inner::tracks::zero_run;
 use codes::refusals::Outcome;
 use codes::refusals::Refusal;
 use codes::units::Chars;
-use views::inner::loads::bits_at;
-use views::inner::parts::view_outcome;
-use views::inner::words::flip_word;
+use fields::inner::loads::bits_at;
+use fields::inner::parts::view_outcome;
+use fields::inner::words::flip_word;
 ghost use mathlib.Core.List.{_++_};
 ghost use mathlib.Core.Path.{_≡_};
 ghost use Prim.Native.Nat.{_+_, _*_, _/_, _%_, _^_, _≤_, _<_};
@@ -16,7 +16,7 @@ ghost use Rattle.codes.specs.Codes.{IsWidth, complement, up};
 ghost use Rattle.codes.specs.Refusals.{first, ifDone};
 ghost use Rattle.codes.specs.Words.{word, charsOf, flip};
 ghost use Rattle.codes.specs.declared.refusals.Outcome.the-variants.{Done};
-ghost use Rattle.views.specs.Views.{viewTests};
+ghost use Rattle.fields.specs.Fields.{viewTests};
 ghost use Rattle.writes.specs.Writes.{flipOutcome, flippedOver};
 
 // The next word of output, where `left` bits from bit p on are still to be reversed.

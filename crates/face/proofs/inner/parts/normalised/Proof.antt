@@ -6,7 +6,7 @@ use lib.ListN.{length}
 use Rattle.codes.specs.Codes.{per}
 use Rattle.codes.specs.Refusals.{answer, first}
 use Rattle.codes.specs.declared.refusals.Outcome.{Outcome}
-use Rattle.views.specs.Views.{viewTests, normalPart}
+use Rattle.fields.specs.Fields.{viewTests, normalPart}
 use Rattle.given.specs.Face.{Part, none}
 use Rattle.face.specs.Parts.{normalisedPart}
 use Rattle.face.proofs.PartLaws.{part-bytes}

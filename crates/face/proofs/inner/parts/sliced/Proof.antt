@@ -4,7 +4,7 @@ use mathlib.Core.Path.{ap₂, _∙_}
 use Prim.Native.Nat.{ℕ, _+_, _-_}
 use lib.ListN.{length}
 use Rattle.codes.specs.Refusals.{answer, first, badEnd, badStart}
-use Rattle.views.specs.Views.{viewTests}
+use Rattle.fields.specs.Fields.{viewTests}
 use Rattle.given.specs.Face.{Part, none}
 use Rattle.face.specs.Parts.{slicedPart}
 use Rattle.face.proofs.PartLaws.{part-numbers}

@@ -7,7 +7,7 @@ use lib.ListN.{length}
 use Rattle.codes.specs.Codes.{chars}
 use Rattle.codes.proofs.TabLaws.{Below-of}
 use Rattle.codes.proofs.WordLaws.{Below}
-use Rattle.views.proofs.LoadLaws.{view-bits, view-word}
+use Rattle.fields.proofs.LoadLaws.{view-bits, view-word}
 use Rattle.lanes.proofs.LaneLaws.{laneChar-early, laneChar-late, char-past, char-within, field-small, lane-place}
 use Rattle.lanes.proofs.inner.eight.lane_char.Statement.{statement}
 use Rattle.lanes.proofs.inner.eight.lane_char.Tie as tie

@@ -2,7 +2,7 @@
 use mathlib.Core.List.{[], _∷_}
 use mathlib.Core.Path.{sym, _∙_}
 use lib.ListN.{length}
-use Rattle.views.specs.Views.{viewTests}
+use Rattle.fields.specs.Fields.{viewTests}
 use Rattle.codes.proofs.OutcomeLaws.{first-refused}
 use Rattle.lanes.specs.Lanes.{badShape, badDelays}
 use Rattle.lanes.proofs.ShapeLaws.{first-of-two, second-of-two, none-of-two}

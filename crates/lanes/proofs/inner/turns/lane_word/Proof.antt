@@ -7,7 +7,7 @@ use lib.ListN.{length}
 use Rattle.codes.specs.Codes.{chars}
 use Rattle.codes.proofs.TabLaws.{Below-of}
 use Rattle.codes.proofs.WordLaws.{Below}
-use Rattle.views.proofs.LoadLaws.{Bits, view-bits, view-word}
+use Rattle.fields.proofs.LoadLaws.{Bits, view-bits, view-word}
 use Rattle.lanes.specs.Written.{Holds}
 use Rattle.lanes.proofs.TurnLaws.{holds-none, holds-last, holds-turn}
 use borrow.Author.Needs.{needs}

@@ -11,7 +11,7 @@ use mathlib.Core.Path.{_∙_}
 use Rattle.codes.proofs.TabLaws.{Below-of}
 use Rattle.codes.proofs.WidthLaws.{width-pos}
 use Rattle.order.proofs.LcpLaws.{Two, Passed, two-few, two-starts, turn-left, turn-right, passed-none, passed-all, passed-turn, passed-found}
-use Rattle.views.proofs.LoadLaws.{turn-pos}
+use Rattle.fields.proofs.LoadLaws.{turn-pos}
 use Rattle.order.proofs.OrderLaws.{pair-bits}
 use Rattle.order.proofs.inner.compare.lcp_words.Statement.{statement}
 use Rattle.order.proofs.inner.compare.lcp_words.Tie as tie

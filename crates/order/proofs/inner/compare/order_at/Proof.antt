@@ -10,9 +10,9 @@ use Rattle.codes.specs.Codes.{pick, per, charAt, chars}
 use Rattle.codes.specs.Refusals.{first}
 use Rattle.codes.specs.declared.refusals.Outcome.the-variants.{Done}
 use Rattle.order.specs.Order.{compare}
-use Rattle.views.specs.Views.{viewTests}
+use Rattle.fields.specs.Fields.{viewTests}
 use Rattle.order.specs.declared.answers.Order.the-variants.{Less, Greater}
-use Rattle.views.proofs.PartLaws.{view-accepted, room-sum, room-char}
+use Rattle.fields.proofs.ViewLaws.{view-accepted, room-sum, room-char}
 use Rattle.order.proofs.OrderLaws.{pair-views, order-behind, order-longer, order-shorter, order-same}
 use borrow.Author.Needs.{needs}
 use Rattle.order.proofs.inner.compare.order_at.Statement.{statement}

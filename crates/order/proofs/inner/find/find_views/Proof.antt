@@ -8,7 +8,7 @@ use Rattle.codes.specs.Refusals.{answer}
 use Rattle.codes.specs.declared.refusals.Outcome.{Outcome}
 use Rattle.codes.specs.declared.refusals.Outcome.the-variants.{Done}
 use Rattle.order.specs.Order.{placed, placeOf, found}
-use Rattle.views.proofs.PartLaws.{view-accepted}
+use Rattle.fields.proofs.ViewLaws.{view-accepted}
 use Rattle.order.proofs.OrderLaws.{pair-views}
 use borrow.Author.Needs.{needs}
 use Rattle.order.proofs.inner.find.find_views.Statement.{statement}

@@ -7,7 +7,7 @@ use Rattle.codes.specs.Refusals.{first}
 use Rattle.codes.specs.declared.refusals.Outcome.the-variants.{Done}
 use Rattle.order.specs.declared.answers.Order.{Order}
 use Rattle.order.specs.Order.{pairOutcome, isSecond, leastBytes}
-use Rattle.views.specs.Views.{viewTests, normalPart}
+use Rattle.fields.specs.Fields.{viewTests, normalPart}
 use Rattle.codes.proofs.OutcomeLaws.{gives-done, gives-refused}
 use Rattle.order.proofs.OrderLaws.{pair-views}
 use borrow.Author.Needs.{needs}

@@ -3,7 +3,7 @@ use mathlib.Core.Path.{_≡_, sym, ap, _∙_}
 use borrow.Author.Needs.{needs}
 use Rattle.codes.specs.Codes.{chars}
 use Rattle.order.specs.Order.{compare}
-use Rattle.views.specs.Views.{flipped}
+use Rattle.fields.specs.Fields.{flipped}
 use Rattle.writes.specs.Writes.{flippedOver}
 use Rattle.order.specs.declared.answers.Order.{Order}
 use Rattle.order.specs.declared.answers.Order.the-variants.{Less, Equal, Greater}

@@ -9,11 +9,11 @@ use borrow.Author.Tests.{lt-ltb, le-ltb}
 use Rattle.codes.specs.Codes.{letter, chars}
 use Rattle.codes.specs.Refusals.{noRoom}
 use Rattle.codes.specs.declared.refusals.Refusal.the-variants.{NoRoom}
-use Rattle.views.specs.Views.{viewTests}
+use Rattle.fields.specs.Fields.{viewTests}
 use Rattle.writes.specs.Writes.{unpackOutcome, unpackedOver}
 use Rattle.writes.proofs.LetterLaws.{lettered-all}
 use Rattle.codes.proofs.OutcomeLaws.{first-done, first-refused, first-holds, first-next}
-use Rattle.views.proofs.PartLaws.{view-accepted}
+use Rattle.fields.proofs.ViewLaws.{view-accepted}
 use borrow.Author.Needs.{needs}
 use Rattle.writes.proofs.inner.letters.unpack_view.Statement.{statement}
 use Rattle.writes.proofs.inner.letters.unpack_view.Tie as tie

@@ -8,9 +8,9 @@ use Rattle.codes.specs.Codes.{up}
 use Rattle.codes.specs.Refusals.{first, noRoom}
 use Rattle.codes.specs.declared.refusals.Outcome.the-variants.{Done}
 use Rattle.codes.proofs.WidthLaws.{up-le}
-use Rattle.views.specs.Views.{viewTests}
+use Rattle.fields.specs.Fields.{viewTests}
 use Rattle.writes.specs.Writes.{flipOutcome, flippedOver}
-use Rattle.views.proofs.LoadLaws.{view-bits}
+use Rattle.fields.proofs.LoadLaws.{view-bits}
 use Rattle.codes.proofs.OutcomeLaws.{first-done, first-refused, room-short, room-right}
 use borrow.Author.Needs.{needs}
 use Rattle.writes.proofs.inner.reverse.to_revcomp.Statement.{statement}

@@ -11,7 +11,7 @@ use Rattle.codes.proofs.TabLaws.{Below-of}
 use Rattle.codes.proofs.WidthLaws.{width-pos}
 use Rattle.writes.proofs.ReverseLaws.{flipped-written}
 use Rattle.writes.proofs.WriteLaws.{up-bits}
-use Rattle.views.proofs.LoadLaws.{Bits, view-bits}
+use Rattle.fields.proofs.LoadLaws.{Bits, view-bits}
 use borrow.Author.Needs.{needs}
 use Rattle.writes.proofs.inner.reverse.write_flipped.Statement.{statement}
 use Rattle.writes.proofs.inner.reverse.write_flipped.Tie as tie

@@ -1,0 +1,44 @@
+-- One view: bytes, an offset and a length, whose meaning is the list of their characters; when it is refused, its characters, its bytes and its words.
+-- Assumes nothing.
+use mathlib.Core.List.{List, [], _∷_, _++_, map, reverse}
+use Prim.Native.Nat.{ℕ, _+_, _-_, _/_}
+use lib.ListN.{length, getD, take, drop}
+use Rattle.codes.specs.Answers.{halves}
+use Rattle.codes.specs.Codes.{per, up, chars, complement}
+use Rattle.codes.specs.Refusals.{Test, Answer, answer, first, tooLong, badView, badIndex, badWord}
+use Rattle.codes.specs.Words.{word}
+
+-- the refusals of a view of n bytes
+abbrev pub viewTests : ℕ → ℕ → ℕ → ℕ → List Test
+viewTests w n o len = tooLong n ∷ badView w n o len ∷ []
+
+-- the character at an index
+unfoldable pub got : ℕ → List ℕ → ℕ → ℕ → ℕ → Answer ℕ
+got w bs o len i = answer (first (viewTests w (length bs) o len ++ badIndex len i ∷ [])) (getD (chars w bs o len) i 0) 0
+
+-- the part from byte a up to byte e
+abbrev pub part : ℕ → ℕ → List ℕ → List ℕ
+part a e bs = take (e - a) (drop a bs)
+
+-- what normalising hands back: from byte offset / C8 to byte ceil((offset + length) / C8) + 48
+abbrev pub normalPart : ℕ → List ℕ → ℕ → ℕ → List ℕ
+normalPart w bs o len = part (o / per w) (up w (o + len) + 48) bs
+
+-- a view's word takes lengths up to 64 / w; in two halves, up to 128 / w
+unfoldable pub asU64 : ℕ → List ℕ → ℕ → ℕ → Answer ℕ
+asU64 w bs o len = answer (first (viewTests w (length bs) o len ++ badWord 0 (64 / w) len ∷ [])) (word w (chars w bs o len)) 0
+
+unfoldable pub asU128 : ℕ → List ℕ → ℕ → ℕ → Answer (ℕ × ℕ)
+asU128 w bs o len = answer (first (viewTests w (length bs) o len ++ badWord 0 (128 / w) len ∷ [])) (halves (word w (chars w bs o len))) (0, 0)
+
+-- characters in reverse, bases complemented
+abbrev pub flipped : ℕ → List ℕ → List ℕ
+flipped w cs = reverse (map (complement w) cs)
+
+-- its reversed word needs length 1 or more
+unfoldable pub flippedAsU64 : ℕ → List ℕ → ℕ → ℕ → Answer ℕ
+flippedAsU64 w bs o len = answer (first (viewTests w (length bs) o len ++ badWord 1 (64 / w) len ∷ [])) (word w (flipped w (chars w bs o len))) 0
+
+unfoldable pub flippedAsU128 : ℕ → List ℕ → ℕ → ℕ → Answer (ℕ × ℕ)
+flippedAsU128 w bs o len =
+    answer (first (viewTests w (length bs) o len ++ badWord 1 (128 / w) len ∷ [])) (halves (word w (flipped w (chars w bs o len)))) (0, 0)

@@ -1,0 +1,4 @@
+// Functions with the width as a number, over plain slices. Only these ask anything of their callers.
+pub mod loads;
+pub mod parts;
+pub mod words;

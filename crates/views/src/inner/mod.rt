@@ -1,4 +1,0 @@
-// What the public calls are made of: functions over the width and over plain slices. Only these ask anything of their callers.
-pub mod loads;
-pub mod parts;
-pub mod words;
