@@ -14,7 +14,9 @@ const ROUNDS: usize = 21;
 const LETTERS: usize = 1_000_000;
 
 fn main() -> Result<(), Refusal> {
-    println!("{ROUNDS} rounds of each job, on {LETTERS} letters or views of them; the ratio is ours / original, the median");
+    println!(
+        "{ROUNDS} rounds of each job, on {LETTERS} letters or views of them; the ratio is ours / original, the median"
+    );
     println!(
         "{:<34} {:>6} {:>6} {:>6}  {:>9}",
         "job", "ratio", "least", "most", "ours"

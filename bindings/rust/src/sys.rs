@@ -1,6 +1,7 @@
 //! The calls of `include/tsivelaro.h`, as they are. The modules above make them safe.
 
 #[allow(missing_docs)]
+#[rustfmt::skip] // a line for each call
 extern "C" {
     pub fn tsiv_version() -> u32;
     pub fn tsiv_bases_room(n: usize) -> usize;

@@ -227,6 +227,7 @@ macro_rules! width {
                 }
 
                 /// The order: the first differing character decides, else the shorter is first.
+                #[allow(clippy::should_implement_trait)] // it can be refused
                 pub fn cmp(self, b: View<'_>) -> Result<Ordering, Refusal> {
                     let mut order = 0;
                     // SAFETY: as in `cmp_lcp`.
