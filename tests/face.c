@@ -89,6 +89,7 @@ static void worked(void)
     len = 99;
     HOLD(tsiv_bases_clear(bytes, 47, &len) == TSIV_NO_ROOM && len == 0);
     HOLD(tsiv_bases_shape(10, 3, 1, &a, &b, &c) == 0 && a == 4 && b == 24 && c == 6);
+    HOLD(tsiv_flags_shape(10, 3, 1, &a, &b, &c) == 0 && a == 8 && b == 56 && c == 10);
     a = b = c = 7;
     HOLD(tsiv_bases_shape(10, 0, 1, &a, &b, &c) == TSIV_BAD_STREAM && a + b + c == 0);
 }

@@ -1,17 +1,17 @@
 -- The part that a call of the C face gives by place is the one that the call itself hands back: the same number, and at that place the same bytes, offset and length.
 -- Assumes nothing.
 use mathlib.Core.Bool.{Bool, true, false}
-use mathlib.Core.List.{List, [], _∷_, _++_}
+use mathlib.Core.List.{List, []}
 use mathlib.Core.Path.{_≡_, refl, sym, ap, _∙_}
 use Prim.Native.Nat.{ℕ, _+_, _-_, _/_, _%_}
 use lib.ListN.{length, take, drop, take-append-drop}
 use lib.Seq.{take-length, take-append-seam}
 use Rattle.codes.specs.Codes.{per, up, pick}
-use Rattle.codes.specs.Refusals.{Answer, answer, first, ifDone, badEnd, badStart}
+use Rattle.codes.specs.Refusals.{Answer, answer, first, ifDone}
 use Rattle.codes.specs.declared.refusals.Outcome.{Outcome}
 use Rattle.codes.specs.declared.refusals.Outcome.the-variants.{Done, Refused}
 use Rattle.order.specs.Order.{pairOutcome, pairOrder, isSecond, leastBytes, leastNumbers}
-use Rattle.fields.specs.Fields.{viewTests, normalPart}
+use Rattle.fields.specs.Fields.{viewTests, sliceTests, normalPart}
 use Rattle.views.specs.Views.{Lent, lent, made, sliced, normalised}
 use Rattle.given.specs.Face.{Part, none}
 use Rattle.face.specs.Parts.{partOf, madePart, slicedPart, normalisedPart, leastPart}
@@ -40,7 +40,7 @@ module _ (w : ℕ) (bs : List ℕ) (o len : ℕ) where
   pub sliced-place : (start end : ℕ) → lentAt bs (slicedPart w bs o len start end) ≡ sliced w bs o len start end
   unfolding slicedPart sliced
   sliced-place start end =
-      at-part (first (viewTests w (length bs) o len ++ badEnd len end ∷ badStart start end ∷ [])) bs (0, length bs, o + start, end - start) bs (take-length bs)
+      at-part (first (sliceTests w (length bs) o len start end)) bs (0, length bs, o + start, end - start) bs (take-length bs)
 
   part-place : bytesAt bs (partOf w bs o len) ≡ normalPart w bs o len
   part-place = take-within (up w (o + len) + 48 - o / per w) (drop (o / per w) bs)

@@ -1,14 +1,14 @@
 -- Parts of a lent buffer that are handed back: the first byte and the count of bytes within the buffer, the offset and the length.
 -- Assumes nothing.
 use mathlib.Core.Bool.{Bool, true, false}
-use mathlib.Core.List.{List, [], _∷_, _++_}
+use mathlib.Core.List.{List}
 use Prim.Native.Nat.{ℕ, _+_, _-_, _/_, _%_}
 use lib.ListN.{length}
 use Rattle.codes.specs.Codes.{per, pick}
-use Rattle.codes.specs.Refusals.{Answer, answer, first, badEnd, badStart}
-use Rattle.given.specs.Face.{Part, none}
+use Rattle.codes.specs.Refusals.{Answer, answer, first}
+use Rattle.fields.specs.Fields.{viewTests, sliceTests, normalPart}
 use Rattle.order.specs.Order.{pairOutcome, pairOrder, isSecond}
-use Rattle.fields.specs.Fields.{viewTests, normalPart}
+use Rattle.given.specs.Face.{Part, none}
 
 -- the normalised part of a view
 abbrev pub partOf : ℕ → List ℕ → ℕ → ℕ → Part
@@ -21,7 +21,7 @@ madePart w bs o len = answer (first (viewTests w (length bs) o len)) (0, length 
 -- slicing keeps the buffer
 unfoldable pub slicedPart : ℕ → List ℕ → ℕ → ℕ → ℕ → ℕ → Answer Part
 slicedPart w bs o len start end =
-    answer (first (viewTests w (length bs) o len ++ badEnd len end ∷ badStart start end ∷ [])) (0, length bs, o + start, end - start) none
+    answer (first (sliceTests w (length bs) o len start end)) (0, length bs, o + start, end - start) none
 
 unfoldable pub normalisedPart : ℕ → List ℕ → ℕ → ℕ → Answer Part
 normalisedPart w bs o len = answer (first (viewTests w (length bs) o len)) (partOf w bs o len) none

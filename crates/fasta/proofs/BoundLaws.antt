@@ -9,9 +9,8 @@ use borrow.Author.Tests.{ltb-true, ltb-false, lt-ltb, le-ltb}
 use lib.Dec.{eqb}
 use lib.ListN.{length, take, getD, length-append}
 use Rattle.codes.specs.Codes.{pick, chars}
-use Rattle.fasta.specs.Report.{refusedText, isHeader}
+use Rattle.fasta.specs.Report.{refusedText, isHeader, totalOf}
 use Rattle.rows.specs.Columns.{setFlags, strandOf}
-use Rattle.fasta.specs.Rows.{totalOf}
 use Rattle.fasta.specs.Records.{opened, ordinal, rowFrom, closed}
 use Rattle.fasta.specs.Steps.{Move, move, stepped, tooShort, seen, lineEnd, endsLine, lineUsed, begun, inHeader, inLine, atLine, next, ending, lastLines}
 use Rattle.fasta.specs.Buffers.{lineTrack, trackAfter, otherAfter}

@@ -8,9 +8,8 @@ use native.Mathlib.Omega.{arith}
 use borrow.Author.Tests.{eq-eqb, ne-eqb, lt-ltb, le-ltb}
 use lib.ListN.{length, getD}
 use Rattle.codes.specs.Codes.{chars}
-use Rattle.fasta.specs.Report.{isHeader}
+use Rattle.fasta.specs.Report.{isHeader, rowOf, totalOf}
 use Rattle.rows.specs.Columns.{Put, setFlags, strandOf}
-use Rattle.fasta.specs.Rows.{rowOf, totalOf}
 use Rattle.fasta.specs.Records.{ordinal, rowFrom, closed, marked}
 use Rattle.fasta.specs.Steps.{Move, stepped, seen, inLine, atLine, moved, next, ending, lastLines}
 use Rattle.fasta.specs.Buffers.{onto, lineTrack, trackAfter, otherAfter, endMarked, otherAtEnd}

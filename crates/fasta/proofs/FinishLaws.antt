@@ -4,8 +4,7 @@ use mathlib.Core.List.{List, [], _++_, append-nil}
 use mathlib.Core.Path.{_≡_, refl, sym, ap, ap₂, subst, _∙_}
 use Prim.Native.Nat.{ℕ, suc, _+_, _^_, _<_}
 use native.Mathlib.Omega.{arith}
-use Rattle.fasta.specs.Report.{records, rows, row}
-use Rattle.fasta.specs.Rows.{totalOf}
+use Rattle.fasta.specs.Report.{records, rows, row, totalOf}
 use Rattle.fasta.specs.Records.{opened, ordinal, closed}
 use Rattle.fasta.specs.Steps.{ending}
 use Rattle.fasta.specs.declared.reader.Record.{Record}

@@ -9,8 +9,7 @@ use lib.ListN.{length, length-append}
 use Rattle.codes.proofs.WidthLaws.{below-or}
 use Rattle.writes.specs.Writes.{flippedOver}
 use Rattle.rows.specs.Columns.{decimal, Put, columns}
-use Rattle.fasta.specs.Report.{tooLongText}
-use Rattle.fasta.specs.Rows.{body, rowOf, totalOf}
+use Rattle.fasta.specs.Report.{tooLongText, body, rowOf, totalOf}
 use Rattle.fasta.specs.Records.{marked}
 use Rattle.fasta.specs.declared.reader.Record.{Record}
 use Rattle.rows.proofs.DecimalLaws.{decimal-length}

@@ -13,8 +13,7 @@ use Rattle.codes.specs.Codes.{pick, chars}
 use Rattle.codes.proofs.WidthLaws.{below-or}
 use Rattle.stores.specs.Stores.{pushAscii, after}
 use Rattle.rows.specs.Columns.{decimal, setFlags, strandOf, columns}
-use Rattle.fasta.specs.Report.{ambiguous, strand, row, refusedText, isHeader}
-use Rattle.fasta.specs.Rows.{body, rowOf}
+use Rattle.fasta.specs.Report.{ambiguous, strand, row, refusedText, isHeader, body, rowOf}
 use Rattle.fasta.specs.Records.{opened, lengthened, ordinal, rowFrom}
 use Rattle.fasta.specs.Steps.{Move, move, lineEnd, endsLine, lineUsed, begun, inHeader, inLine, atLine, next}
 use Rattle.fasta.specs.Buffers.{lineTrack, trackAfter}

@@ -1,5 +1,4 @@
 pub mod Report
-pub mod Rows
 pub mod Records
 pub mod Steps
 pub mod Buffers

@@ -6,7 +6,7 @@ use lib.Dec.{ltb}
 use Rattle.codes.specs.Codes.{pick, chars}
 use Rattle.writes.specs.Writes.{flippedOver}
 use Rattle.rows.specs.Columns.{setFlags, strandOf}
-use Rattle.fasta.specs.Rows.{rowOf, totalOf}
+use Rattle.fasta.specs.Report.{rowOf, totalOf}
 use Rattle.fasta.specs.declared.reader.Record.{Record}
 
 -- 16,385 stands for any number above 16,384

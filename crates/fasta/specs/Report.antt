@@ -6,9 +6,7 @@ use Prim.Native.Nat.{ℕ, suc, _+_}
 use lib.Dec.{ltb, eqb}
 use lib.ListN.{length}
 use Rattle.codes.specs.Codes.{pick, lossy, flag}
-use Rattle.order.specs.Order.{compare}
-use Rattle.fields.specs.Fields.{flipped}
-use Rattle.rows.specs.Columns.{decimal, sign}
+use Rattle.rows.specs.Columns.{decimal, columns, strandOf}
 
 -- "record", "bases", "ambiguous", "strand", tabs between them; a tab is byte 9, LF byte 10
 abbrev pub heading : List ℕ
@@ -53,20 +51,31 @@ unfoldable pub ambiguous : List ℕ → ℕ
 ambiguous [] = 0
 ambiguous (x ∷ xs) = flag x + ambiguous xs
 
--- the record's bases against their reverse complement: `<`, `=` or `>`
+-- the record's bases against their reverse complement
 unfoldable pub strand : List ℕ → ℕ
-strand letters = sign (compare (map lossy letters) (flipped 2 (map lossy letters)))
+unfolding strandOf
+strand letters = strandOf (map lossy letters)
 
--- a record over 16,384 letters gives its number and `too-long`
+-- what stands behind a record's number: its columns, or `too-long` over 16,384 letters
+unfoldable pub body : ℕ → ℕ → ℕ → List ℕ
+unfolding columns
+body count ambiguous mark = pick (ltb 16384 count) tooLongText (columns count ambiguous mark)
+
+unfoldable pub rowOf : ℕ → ℕ → ℕ → ℕ → List ℕ
+unfolding body
+rowOf i count ambiguous mark = decimal i ++ (9 ∷ (body count ambiguous mark ++ (10 ∷ [])))
+
 unfoldable pub row : ℕ → List ℕ → List ℕ
-unfolding ambiguous strand
-row i letters =
-    decimal i ++ (9 ∷ (pick (ltb 16384 (length letters)) tooLongText (decimal (length letters) ++ (9 ∷ (decimal (ambiguous letters) ++ (9 ∷ strand letters ∷ [])))) ++ (10 ∷ [])))
+unfolding ambiguous strand rowOf
+row i letters = rowOf i (length letters) (ambiguous letters) (strand letters)
+
+unfoldable pub totalOf : ℕ → List ℕ
+totalOf i = totalText ++ (9 ∷ (decimal i ++ (10 ∷ [])))
 
 -- the rows of the records after the first i, and the total
 unfoldable pub rows : ℕ → List (List ℕ) → List ℕ
-unfolding row
-rows i [] = totalText ++ (9 ∷ (decimal i ++ (10 ∷ [])))
+unfolding row totalOf
+rows i [] = totalOf i
 rows i (r ∷ rs) = row (suc i) r ++ rows (suc i) rs
 
 -- letters before any header give `refused`, and reading ends; a blank line before it holds none

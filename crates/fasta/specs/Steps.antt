@@ -6,8 +6,7 @@ use Prim.Native.Nat.{ℕ, suc, _+_}
 use lib.Dec.{ltb, eqb}
 use lib.ListN.{length, getD}
 use Rattle.codes.specs.Codes.{pick}
-use Rattle.fasta.specs.Report.{heading, refusedText, isHeader}
-use Rattle.fasta.specs.Rows.{totalOf}
+use Rattle.fasta.specs.Report.{heading, refusedText, isHeader, totalOf}
 use Rattle.fasta.specs.Records.{opened, lengthened, ordinal, rowFrom, closed}
 use Rattle.fasta.specs.declared.reader.Record.{Record}
 use Rattle.fasta.specs.declared.reader.Reader.{Reader}

@@ -13,7 +13,7 @@ ghost use Prim.Native.Nat.{_+_, _≤_};
 ghost use lib.ListN.{length};
 ghost use Rattle.codes.specs.Codes.{chars};
 ghost use Rattle.rows.specs.Columns.{Put, setFlags, strandOf};
-ghost use Rattle.fasta.specs.Rows.{body, rowOf, totalOf};
+ghost use Rattle.fasta.specs.Report.{body, rowOf, totalOf};
 ghost use Rattle.fasta.specs.Records.{marked};
 
 // What stands behind a record's number: its columns, or `too-long`.

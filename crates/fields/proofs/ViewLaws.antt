@@ -1,6 +1,6 @@
 -- The laws of one view: what an accepted view has room for, that normalising keeps its characters, the answers of `got`, and what an accepted slice has.
 -- Assumes nothing.
-use mathlib.Core.List.{List, [], _∷_, _++_}
+use mathlib.Core.List.{List, [], _∷_}
 use mathlib.Core.Path.{_≡_, sym, ap, ap₂, _∙_, subst}
 use Prim.Native.Nat.{ℕ, _+_, _-_, _*_, _/_, _%_, _^_, _≤_, _<_}
 use native.Mathlib.Nat.{le-of-mul-le-mul-right, div-lt-iff-lt-mul, le-div-iff-mul-le, div-mul-le-self, add-assoc, div-add-mod', mul-add-div-right, mul-add-mod-self-right}
@@ -18,7 +18,7 @@ use Rattle.codes.specs.declared.refusals.Outcome.the-variants.{Done, Refused}
 use Rattle.codes.proofs.CharLaws.{getD-chars, chars-ext}
 use Rattle.codes.proofs.OutcomeLaws.{passed, first-holds, first-next, first-refused, first-done, first-both}
 use Rattle.codes.proofs.WidthLaws.{per-pos, up-hi, up-mono, up-whole, less-48, chars-bound}
-use Rattle.fields.specs.Fields.{viewTests, got, normalPart}
+use Rattle.fields.specs.Fields.{viewTests, sliceTests, got, normalPart}
 
 -- an accepted view of n bytes: they are not too many, and reach 48 beyond the characters
 pub record Room (w n o len : ℕ) : Type 0 where
@@ -99,7 +99,7 @@ pub record Cut (w n o len start end : ℕ) : Type 0 where
   pub ends : end ≤ len
   pub starts : start ≤ end
 
-pub slice-cut : (w n o len start end : ℕ) → first (viewTests w n o len ++ badEnd len end ∷ badStart start end ∷ []) ≡ Done → Cut w n o len start end
+pub slice-cut : (w n o len start end : ℕ) → first (sliceTests w n o len start end) ≡ Done → Cut w n o len start end
 slice-cut w n o len start end e =
     let b = first-both (viewTests w n o len) (badEnd len end ∷ badStart start end ∷ []) e in
     let p = passed (ltb len end) _ _ (b .1) in

@@ -3,11 +3,11 @@
 use mathlib.Core.List.{List, _++_}
 use mathlib.Core.Path.{_≡_}
 use Prim.Native.Nat.{ℕ, _+_, _-_, _*_, _/_, _%_, _^_, _≤_, _<_}
+use lib.Dec.{ltb, eqb}
 use lib.ListN.{length, getD, replicate}
 use Rattle.codes.specs.Codes.{per, tab, chars, code, up, pick, charAt}
 use Rattle.codes.specs.Words.{word, pack}
 use Rattle.runs.specs.declared.inner.bounds.Bounds.{Bounds}
-use lib.Dec.{ltb, eqb}
 
 -- the next multiple of C8 at or above the length, plus the view's in-byte offset
 abbrev pub seqStart : ℕ → ℕ → ℕ → ℕ
@@ -16,6 +16,10 @@ seqStart w len o = up w len * per w + o % per w
 -- gap characters are 0 at width 2 and 1 at width 1
 abbrev pub gapChar : ℕ → ℕ
 gapChar w = pick (eqb w 1) 1 0
+
+-- the gap before a view that is pushed, and the view's characters
+abbrev pub seqChars : ℕ → ℕ → List ℕ → ℕ → ℕ → List ℕ
+seqChars w len bs o n = replicate (seqStart w len o - len) (gapChar w) ++ chars w bs o n
 
 -- f's characters below `at`, then those of cs and zeros up to `stop`, then f's
 unfoldable pub splice : (ℕ → ℕ) → ℕ → List ℕ → ℕ → ℕ → ℕ
@@ -49,10 +53,6 @@ freshByte w old at cs stop b = word w (tab (per w) (λ k. freshChar w old at cs 
 -- the number of n letters' codes from letter i on
 unfoldable pub lettersWord : ℕ → ℕ → List ℕ → ℕ → ℕ
 lettersWord w n letters i = word w (tab n (λ k. code w (getD letters (i + k) 0)))
-
--- the gap before a view that is pushed, and the view's characters
-abbrev pub seqChars : ℕ → ℕ → List ℕ → ℕ → ℕ → List ℕ
-seqChars w len bs o n = replicate (seqStart w len o - len) (gapChar w) ++ chars w bs o n
 
 -- the bounds of a run from character `start` up to character `end`, whose bytes are whole from character `at` on
 pub record Bounded (w start at end : ℕ) (b : Bounds) : Type 0 where

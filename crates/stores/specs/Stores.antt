@@ -1,12 +1,12 @@
 -- Stores: a lent buffer and a length in characters; what each call answers, and what it writes.
 -- Assumes nothing.
-use mathlib.Core.List.{List, [], _∷_, _++_, map}
-use Prim.Native.Nat.{ℕ, _+_, _-_}
-use lib.ListN.{length, replicate}
-use Rattle.codes.specs.Codes.{up, chars, code}
+use mathlib.Core.List.{List, [], _∷_, map}
+use Prim.Native.Nat.{ℕ, _+_}
+use lib.ListN.{length}
+use Rattle.codes.specs.Codes.{up, code}
 use Rattle.codes.specs.Refusals.{Test, Answer, answer, first, ifDone, tooLong, badStore, badView, badEnd, noRoom}
 use Rattle.codes.specs.declared.refusals.Outcome.{Outcome}
-use Rattle.runs.specs.Runs.{seqStart, gapChar, written, overwritten}
+use Rattle.runs.specs.Runs.{seqStart, seqChars, written, overwritten}
 
 -- the calls on a store, with what they are given
 pub data Call : Type 0 where
@@ -43,7 +43,7 @@ abbrev pub deed : ℕ → ℕ → Call → Edit
 deed w len clear = from 0 []
 deed w len (pushAscii []) = still
 deed w len (pushAscii (l ∷ ls)) = from len (map (code w) (l ∷ ls))
-deed w len (pushSeq bs o n) = from len (replicate (seqStart w len o - len) (gapChar w) ++ chars w bs o n)
+deed w len (pushSeq bs o n) = from len (seqChars w len bs o n)
 deed w len (overwrite start letters) = over start (map (code w) letters)
 deed w len (cut n) = from n []
 

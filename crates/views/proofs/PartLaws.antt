@@ -1,17 +1,17 @@
 -- What a part says that is handed back, by its numbers and its bytes.
 -- Assumes nothing.
-use mathlib.Core.List.{List, [], _∷_, _++_}
+use mathlib.Core.List.{List, []}
 use mathlib.Core.Path.{_≡_, refl, sym, ap, _∙_}
 use Prim.Native.Nat.{ℕ, _+_, _-_, _%_}
 use lib.ListN.{length}
 use denote.Ref.{RefT, now}
 use Rattle.codes.specs.Codes.{per}
-use Rattle.codes.specs.Refusals.{Answer, first, answer, ifDone, numberOf, badEnd, badStart}
+use Rattle.codes.specs.Refusals.{Answer, first, answer, ifDone, numberOf}
 use Rattle.codes.specs.declared.refusals.Outcome.{Outcome}
 use Rattle.codes.specs.declared.refusals.Outcome.the-variants.{Done, Refused}
 use Rattle.codes.proofs.RefusalLaws.{outcomeAt, outcomeAt-number}
 use Rattle.fields.specs.Answers.{numbersSay}
-use Rattle.fields.specs.Fields.{viewTests, normalPart}
+use Rattle.fields.specs.Fields.{viewTests, sliceTests, normalPart}
 use Rattle.fields.specs.declared.inner.parts.Numbers.{Numbers}
 use Rattle.views.specs.Answers.{partSays}
 use Rattle.views.specs.Views.{Lent, lent, made, sliced, normalised}
@@ -47,10 +47,10 @@ module _ (w : ℕ) (bs : List ℕ) (o len : ℕ) (n : Numbers) (s : RefT (List �
   unfolding made
   made-says e eb = kept-says n s (first (viewTests w (length bs) o len)) bs o len e eb
 
-  pub sliced-says : (start end : ℕ) → numbersSay n ≡ answer (first (viewTests w (length bs) o len ++ badEnd len end ∷ badStart start end ∷ [])) (o + start, end - start) (0, 0) → now s ≡ ifDone (n .outcome) bs []
+  pub sliced-says : (start end : ℕ) → numbersSay n ≡ answer (first (sliceTests w (length bs) o len start end)) (o + start, end - start) (0, 0) → now s ≡ ifDone (n .outcome) bs []
       → partSays (part-of n s) ≡ sliced w bs o len start end
   unfolding sliced
-  sliced-says start end e eb = kept-says n s (first (viewTests w (length bs) o len ++ badEnd len end ∷ badStart start end ∷ [])) bs (o + start) (end - start) e eb
+  sliced-says start end e eb = kept-says n s (first (sliceTests w (length bs) o len start end)) bs (o + start) (end - start) e eb
 
   pub normalised-says : numbersSay n ≡ answer (first (viewTests w (length bs) o len)) (o % per w, len) (0, 0) → now s ≡ ifDone (first (viewTests w (length bs) o len)) (normalPart w bs o len) []
       → partSays (part-of n s) ≡ normalised w bs o len

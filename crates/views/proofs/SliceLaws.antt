@@ -17,7 +17,7 @@ use Rattle.codes.specs.declared.refusals.Refusal.the-variants.{TooLong, BadView
 use Rattle.codes.proofs.CharLaws.{length-chars, chars-append}
 use Rattle.codes.proofs.WidthLaws.{up-hi, below-or}
 use Rattle.codes.proofs.OutcomeLaws.{first-next, first-holds, first-done, first-refused, first-both}
-use Rattle.fields.specs.Fields.{viewTests, normalPart, got}
+use Rattle.fields.specs.Fields.{viewTests, sliceTests, normalPart, got}
 use Rattle.fields.proofs.ViewLaws.{Room, view-accepted, slice-cut, room-start, room-end, normal-chars}
 use Rattle.views.specs.Views.{Lent, lent, made, sliced, normalised, gotSliced}
 
@@ -50,7 +50,7 @@ module _ {w : ℕ} (bs : List ℕ) (o len : ℕ) (e : first (viewTests w (length
   unfolding sliced
   sliced-holds start end l m =
       let r = view-accepted w (length bs) o len e in
-      let d : first (viewTests w (length bs) o len ++ badEnd len end ∷ badStart start end ∷ []) ≡ Done = first-done (viewTests w (length bs) o len) (badEnd len end ∷ badStart start end ∷ []) e
+      let d : first (sliceTests w (length bs) o len start end) ≡ Done = first-done (viewTests w (length bs) o len) (badEnd len end ∷ badStart start end ∷ []) e
       ∙ first-next (ltb len end) BadRange (badStart start end ∷ []) (le-ltb len end m) ∙ first-next (ltb end start) BadRange [] (le-ltb end start l) in
       held (lent bs (o + start) (end - start)) d
       (record { accepted = room-done w (length bs) (o + start) (end - start) (record { small = r .small; fits = omega (arith, r .fits) }); characters = chars-between w bs o len start end l m })
@@ -109,7 +109,7 @@ module _ {w : ℕ} {cs : List ℕ} (p : Lent) (h : Holds w cs p) where
 -- a character of a view that is made, sliced and normalised is one of the slice; a refusal of the view or of the slice goes first
 module _ {w : ℕ} (W : IsWidth w) (bs : List ℕ) (o len start end i : ℕ) where
   abbrev tests : List Test
-  tests = viewTests w (length bs) o len ++ badEnd len end ∷ badStart start end ∷ []
+  tests = sliceTests w (length bs) o len start end
 
   abbrev read : Answer ℕ
   read = gotOf w (normalisedOf w (slicedOf w (made w bs o len .values) start end .values) .values) i

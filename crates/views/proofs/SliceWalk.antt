@@ -1,7 +1,7 @@
 -- The walk of `slice`, once over the width k: the MIR of the two widths differs in that literal alone. The view is taken apart twice: `slice_numbers` is called for the numbers, and `kept` for the bytes.
 -- Assumes nothing.
 use mathlib.Core.Path.{_≡_, refl, ap}
-use mathlib.Core.List.{List, [], _∷_, _++_}
+use mathlib.Core.List.{List, [], _∷_}
 use Prim.Native.Nat.{ℕ, _^_, _+_, _-_}
 use lib.Dec.{T as Holds, ltb}
 use lib.ListN.{length}
@@ -36,12 +36,12 @@ use denote.Triple.Walked.{says, Stays, stay-none, walkOf, goes-none, Walks, ends
 use denote.Triple.Clauses.{Clauses, ensured, lasts, closing}
 use denote.Exit.{yes}
 use Rattle.codes.specs.Codes.{IsWidth}
-use Rattle.codes.specs.Refusals.{answer, first, badEnd, badStart}
+use Rattle.codes.specs.Refusals.{answer, first}
 use Rattle.codes.specs.declared.units.Chars.{Chars}
 use Rattle.codes.proofs.units.Chars as Cs
 use Rattle.codes.proofs.units.Chars.Laws as C′
 use Rattle.fields.specs.Answers.{numbersSay}
-use Rattle.fields.specs.Fields.{viewTests}
+use Rattle.fields.specs.Fields.{sliceTests}
 use Rattle.fields.specs.declared.inner.parts.Numbers.{Numbers}
 use Rattle.fields.proofs.inner.parts.Numbers as N
 use Rattle.fields.proofs.inner.parts.Numbers.Laws as N′
@@ -134,7 +134,7 @@ module _ {M : Type 1} (𝓤 : URA M) (H : Heap 𝓤) (A : Atoms 𝓤) (W : Given
       move ! (2 ∷ 0 ∷ []) $ use2 W (raw (NumbersC 𝓤 H A mem run .pre to₁)) (qed W ((‵ (flft κ q) ⊛ ‵ ftrue) ∷ ‵ (owns Qs b₁ passed₁) ∷ []) ∵ says ! width $ frame ! $ done !) $ frame ! $ done !
 
   abbrev Said₁ : Numbers → Type 0
-  Said₁ r = numbersSay r ≡ answer (first (viewTests k (length (now (d .bytes))) (d .offset .0) (d .len .0) ++ badEnd (d .len .0) (end .0) ∷ badStart (start .0) (end .0) ∷ [])) (d .offset .0 + start .0, end .0 - start .0) (0, 0)
+  Said₁ r = numbersSay r ≡ answer (first (sliceTests k (length (now (d .bytes))) (d .offset .0) (d .len .0) (start .0) (end .0))) (d .offset .0 + start .0, end .0 - start .0) (0, 0)
 
   said₁ : (r : Numbers) → ent 𝓤 (ensured 𝓤 H A numbers.ended (numbers.clauses 𝓤 H A mem run) (κ, tt) b₁ tt r) (fact 𝓤 (Said₁ r))
   said₁ r = exE 𝓤 _ (λ ws. snd∗ 𝓤 (sem 𝓤 H A (lasts numbers.ended (κ, tt) b₁ ws)) (fact 𝓤 (Said₁ r)))

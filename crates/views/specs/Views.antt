@@ -4,8 +4,8 @@ use mathlib.Core.List.{List, [], _∷_, _++_}
 use Prim.Native.Nat.{ℕ, _+_, _-_, _%_}
 use lib.ListN.{length, getD}
 use Rattle.codes.specs.Codes.{per, chars}
-use Rattle.codes.specs.Refusals.{Answer, answer, first, badIndex, badEnd, badStart}
-use Rattle.fields.specs.Fields.{viewTests, normalPart}
+use Rattle.codes.specs.Refusals.{Answer, answer, first, badIndex}
+use Rattle.fields.specs.Fields.{viewTests, sliceTests, normalPart}
 
 -- a part that is handed back: its bytes, its offset and its length
 pub record Lent : Type 0 where
@@ -23,7 +23,7 @@ made w bs o len = answer (first (viewTests w (length bs) o len)) (lent bs o len)
 -- slicing keeps the buffer
 unfoldable pub sliced : ℕ → List ℕ → ℕ → ℕ → ℕ → ℕ → Answer Lent
 sliced w bs o len start end =
-    answer (first (viewTests w (length bs) o len ++ badEnd len end ∷ badStart start end ∷ [])) (lent bs (o + start) (end - start)) (lent [] 0 0)
+    answer (first (sliceTests w (length bs) o len start end)) (lent bs (o + start) (end - start)) (lent [] 0 0)
 
 -- normalising hands back the part, with offset mod C8
 unfoldable pub normalised : ℕ → List ℕ → ℕ → ℕ → Answer Lent
@@ -32,4 +32,4 @@ normalised w bs o len = answer (first (viewTests w (length bs) o len)) (lent (no
 -- the character at an index of a slice
 unfoldable pub gotSliced : ℕ → List ℕ → ℕ → ℕ → ℕ → ℕ → ℕ → Answer ℕ
 gotSliced w bs o len start end i =
-    answer (first (viewTests w (length bs) o len ++ badEnd len end ∷ badStart start end ∷ badIndex (end - start) i ∷ [])) (getD (chars w bs o len) (start + i) 0) 0
+    answer (first (sliceTests w (length bs) o len start end ++ badIndex (end - start) i ∷ [])) (getD (chars w bs o len) (start + i) 0) 0

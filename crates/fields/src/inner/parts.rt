@@ -9,16 +9,16 @@ use codes::letters::Symbol;
 use codes::refusals::Outcome;
 use codes::refusals::Refusal;
 use codes::units::Chars;
-ghost use mathlib.Core.List.{[], _∷_, _++_};
+ghost use mathlib.Core.List.{[]};
 ghost use mathlib.Core.Path.{_≡_};
 ghost use Prim.Native.Nat.{_+_, _-_, _%_};
 ghost use lib.ListN.{length};
 ghost use Rattle.codes.specs.Answers.{symbolSays};
 ghost use Rattle.codes.specs.Codes.{IsWidth, per};
-ghost use Rattle.codes.specs.Refusals.{answer, first, ifDone, badEnd, badStart};
+ghost use Rattle.codes.specs.Refusals.{answer, first, ifDone};
 ghost use Rattle.codes.specs.declared.refusals.Outcome.the-variants.{Done};
 ghost use Rattle.fields.specs.Answers.{numbersSay};
-ghost use Rattle.fields.specs.Fields.{viewTests, got, normalPart};
+ghost use Rattle.fields.specs.Fields.{viewTests, sliceTests, got, normalPart};
 
 // The offset and the length of a part, zeros where it is refused.
 pub struct Numbers {
@@ -105,7 +105,7 @@ pub fn slice_outcome(
     end: Chars,
 ) -> Outcome
     requires { ⌜ IsWidth w ⌝ }
-    ensures { λ r. ⌜ r ≡ first (viewTests w (length (now (bytes .entry))) (offset .0) (len .0) ++ badEnd (len .0) (end .0) ∷ badStart (start .0) (end .0) ∷ []) ⌝ }
+    ensures { λ r. ⌜ r ≡ first (sliceTests w (length (now (bytes .entry))) (offset .0) (len .0) (start .0) (end .0)) ⌝ }
 {
     match view_outcome(w, bytes, offset, len) {
         Outcome::Refused(refusal) => Outcome::Refused(refusal),
@@ -131,7 +131,7 @@ pub fn slice_numbers(
     end: Chars,
 ) -> Numbers
     requires { ⌜ IsWidth w ⌝ }
-    ensures { λ r. ⌜ numbersSay r ≡ answer (first (viewTests w (length (now (bytes .entry))) (offset .0) (len .0) ++ badEnd (len .0) (end .0) ∷ badStart (start .0) (end .0) ∷ [])) (offset .0 + start .0, end .0 - start .0) (0, 0) ⌝ }
+    ensures { λ r. ⌜ numbersSay r ≡ answer (first (sliceTests w (length (now (bytes .entry))) (offset .0) (len .0) (start .0) (end .0))) (offset .0 + start .0, end .0 - start .0) (0, 0) ⌝ }
 {
     match slice_outcome(w, bytes, offset, len, start, end) {
         Outcome::Refused(refusal) => numbers_of(Outcome::Refused(refusal), offset, len),

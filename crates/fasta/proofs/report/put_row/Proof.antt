@@ -4,7 +4,7 @@ use native.Mathlib.Omega.{arith}
 use lib.ListN.{length}
 use Rattle.codes.specs.Codes.{chars}
 use Rattle.rows.specs.Columns.{setFlags, strandOf}
-use Rattle.fasta.specs.Rows.{rowOf}
+use Rattle.fasta.specs.Report.{rowOf}
 use Rattle.rows.proofs.DecimalLaws.{decimal-length}
 use Rattle.fasta.proofs.RowLaws.{body-length}
 use Rattle.rows.proofs.SetsLaws.{put-then, put-length}

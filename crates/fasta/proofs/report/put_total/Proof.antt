@@ -1,6 +1,6 @@
 -- Three puts, one after another. Assumes nothing.
 use native.Mathlib.Omega.{arith}
-use Rattle.fasta.specs.Rows.{totalOf}
+use Rattle.fasta.specs.Report.{totalOf}
 use Rattle.rows.proofs.DecimalLaws.{decimal-length}
 use Rattle.rows.proofs.SetsLaws.{put-then, put-length}
 use borrow.Author.Needs.{needs}

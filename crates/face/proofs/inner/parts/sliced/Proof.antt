@@ -1,10 +1,9 @@
 -- By what the slice is, and what is made of a part. Assumes nothing.
-use mathlib.Core.List.{[], _∷_, _++_}
 use mathlib.Core.Path.{ap₂, _∙_}
 use Prim.Native.Nat.{ℕ, _+_, _-_}
 use lib.ListN.{length}
-use Rattle.codes.specs.Refusals.{answer, first, badEnd, badStart}
-use Rattle.fields.specs.Fields.{viewTests}
+use Rattle.codes.specs.Refusals.{answer, first}
+use Rattle.fields.specs.Fields.{sliceTests}
 use Rattle.given.specs.Face.{Part, none}
 use Rattle.face.specs.Parts.{slicedPart}
 use Rattle.face.proofs.PartLaws.{part-numbers}
@@ -45,7 +44,7 @@ returns c =
     let numbers = rw (s .before .before .before .before .new .ensures, s .before .before .before .new2 .ensures, s .before .before .new3 .ensures, s .before .new4 .ensures) at (s .slice-numbers .ensures) in
     c .part .ensures
     ∙ ap₂ (λ (o len : ℕ). answer {A = Part} (s .slice-numbers .result .outcome) (0, length (a .bytes .now), o, len) none) (k .before .count .ensures) (k .count2 .ensures)
-    ∙ part-numbers (s .slice-numbers .result) (first (viewTests (a .w) (length (a .bytes .now)) (a .offset) (a .len) ++ badEnd (a .len) (a .end) ∷ badStart (a .start) (a .end) ∷ [])) (length (a .bytes .now)) (a .offset + a .start) (a .end - a .start) numbers
+    ∙ part-numbers (s .slice-numbers .result) (first (sliceTests (a .w) (length (a .bytes .now)) (a .offset) (a .len) (a .start) (a .end))) (length (a .bytes .now)) (a .offset + a .start) (a .end - a .start) numbers
 
 pub sliced-spec : {M : Type 1} → statement M
 sliced-spec =
