@@ -19,7 +19,7 @@ run: target/bin/screen
 
 target/bin/screen: crates.txt $(SOURCES)
 	@mkdir -p target
-	@rt check screen >target/screen.log 2>&1 || { cat target/screen.log; exit 1; }
+	@tools/watch target/screen.log rt check screen
 	@touch $@
 
 lib: $(LIB)
