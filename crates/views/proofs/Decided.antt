@@ -1,9 +1,7 @@
 -- For each public call: any two permitted outcomes coincide.
 -- Assumes nothing.
-use denote.Ref.{now}
 use mathlib.Core.Path.{_≡_, sym, ap, _∙_}
 use Prim.Native.Nat.{ℕ}
-use mathlib.Core.List.{List}
 use Rattle.codes.specs.Refusals.{Answer}
 use Rattle.codes.specs.Answers.{symbolSays}
 use Rattle.codes.specs.declared.letters.Symbol.{Symbol}
@@ -11,6 +9,7 @@ use Rattle.codes.proofs.Permitted.{Decided}
 use Rattle.codes.proofs.RefusalLaws.{says-once, outcomeAt, outcomeAt-number}
 use Rattle.codes.proofs.AnswerLaws.{symbol-told, word-told, word128-told}
 use Rattle.fields.specs.Fields.{got}
+use Rattle.fields.specs.Spans.{Span, spanOf}
 use Rattle.views.specs.Answers.{partSays}
 use Rattle.views.specs.Views.{Lent, made, sliced, normalised}
 use Rattle.views.specs.declared.view.Part.{Part}
@@ -67,30 +66,30 @@ flags-revcomp-as-u128-decided κs a x y s t p q = says-once word128-told x y (p 
 
 -- Of the calls over `View` the contracts are given by their own words, at any width.
 
--- a part that is handed back is decided by its bytes, its numbers and its outcome
+-- a part that is handed back is decided by its place, its bytes, its numbers and its outcome
 pub record SamePart (p q : Part) : Type 0 where
-  pub bytes : now (p .view .bytes) ≡ now (q .view .bytes)
+  pub span : spanOf (p .view .bytes) ≡ spanOf (q .view .bytes)
   pub offset : p .view .offset .0 ≡ q .view .offset .0
   pub len : p .view .len .0 ≡ q .view .len .0
   pub outcome : p .outcome ≡ q .outcome
 
 part-once : (p q : Part) → partSays p ≡ partSays q → SamePart p q
 part-once p q e = record {
-  bytes = ap (λ (x : Answer Lent). x .values .bytes) e;
+  span = ap (λ (x : Answer Lent). x .values .span) e;
   offset = ap (λ (x : Answer Lent). x .values .offset) e;
   len = ap (λ (x : Answer Lent). x .values .len) e;
   outcome = sym (outcomeAt-number (p .outcome)) ∙ ap (λ (x : Answer Lent). outcomeAt (x .no)) e ∙ outcomeAt-number (q .outcome);
 }
 
-module _ (w : ℕ) (bs : List ℕ) (o len : ℕ) where
-  pub view-decided : (p q : Part) → partSays p ≡ made w bs o len → partSays q ≡ made w bs o len → SamePart p q
+module _ (w : ℕ) (s : Span) (o len : ℕ) where
+  pub view-decided : (p q : Part) → partSays p ≡ made w s o len → partSays q ≡ made w s o len → SamePart p q
   view-decided p q e f = part-once p q (e ∙ sym f)
 
-  pub get-decided : (i : ℕ) (x y : Symbol) → symbolSays x ≡ got w bs o len i → symbolSays y ≡ got w bs o len i → x ≡ y
+  pub get-decided : (i : ℕ) (x y : Symbol) → symbolSays x ≡ got w (s .bytes) o len i → symbolSays y ≡ got w (s .bytes) o len i → x ≡ y
   get-decided i x y e f = says-once symbol-told x y (e ∙ sym f)
 
-  pub slice-decided : (start end : ℕ) (p q : Part) → partSays p ≡ sliced w bs o len start end → partSays q ≡ sliced w bs o len start end → SamePart p q
+  pub slice-decided : (start end : ℕ) (p q : Part) → partSays p ≡ sliced w s o len start end → partSays q ≡ sliced w s o len start end → SamePart p q
   slice-decided start end p q e f = part-once p q (e ∙ sym f)
 
-  pub normalise-decided : (p q : Part) → partSays p ≡ normalised w bs o len → partSays q ≡ normalised w bs o len → SamePart p q
+  pub normalise-decided : (p q : Part) → partSays p ≡ normalised w s o len → partSays q ≡ normalised w s o len → SamePart p q
   normalise-decided p q e f = part-once p q (e ∙ sym f)
