@@ -6,9 +6,9 @@ use crate::inner::pairs::pair_outcome;
 use codes::inner::counts::within_byte;
 use codes::refusals::Outcome;
 use codes::units::Chars;
+use fields::inner::parts::Numbers;
 use fields::inner::parts::accepted_part;
 use fields::inner::parts::numbers_of;
-use fields::inner::parts::Numbers;
 ghost use mathlib.Core.Path.{_≡_};
 ghost use Prim.Native.Nat.{_%_};
 ghost use Rattle.codes.specs.Codes.{IsWidth, per, pick};
@@ -56,7 +56,14 @@ pub fn choose(w: usize, a: &[u8], ao: Chars, al: Chars, b: &[u8], bo: Chars, bl:
 }
 
 // The numbers of its part.
-pub fn chosen_numbers(w: usize, ao: Chars, al: Chars, bo: Chars, bl: Chars, which: Choice) -> Numbers
+pub fn chosen_numbers(
+    w: usize,
+    ao: Chars,
+    al: Chars,
+    bo: Chars,
+    bl: Chars,
+    which: Choice,
+) -> Numbers
     requires { ⌜ IsWidth w ⌝ }
     ensures { λ r. ⌜ numbersSay r ≡ answer (which .outcome) (pick (which .second) (bo .0 % per w, bl .0) (ao .0 % per w, al .0)) (0, 0) ⌝ }
 {
