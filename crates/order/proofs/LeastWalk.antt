@@ -112,7 +112,8 @@ module _ {M : Type 1} (𝓤 : URA M) (k : ℕ) where
   abbrev pub clausesOf : Clauses 𝓤 least.ended
   clausesOf = λ κs a. record { ghost = Unit {0}; requires = λ g. emp 𝓤; ensures = λ g r e. fact 𝓤 (partSays r ≡ chosen k (spanOf (a .0)) (a .1 .0 .0) (a .1 .1 .0 .0) (spanOf (a .1 .1 .1 .0)) (a .1 .1 .1 .1 .0 .0) (a .1 .1 .1 .1 .1 .0 .0)) }
 
-module _ {M : Type 1} (𝓤 : URA M) (H : Heap 𝓤) (A : Atoms 𝓤) (W : Given 𝓤 H A) (mem : Memory → SProp 𝓤) (run : Routine → Fun 𝓤) (k : ℕ) (small : Holds (ltb k (2 ^ 64))) (width : IsWidth k) (κ : Lft) (q : Share) (x : RefT (List ℕ)) (ao al : Chars) (y : RefT (List ℕ)) (bo bl : Chars) where
+module _ {M : Type 1} (𝓤 : URA M) (H : Heap 𝓤) (A : Atoms 𝓤) (W : Given 𝓤 H A) (mem : Memory → SProp 𝓤) (run : Routine → Fun 𝓤) (k : ℕ) (small : Holds (ltb k (2 ^ 64))) (width : IsWidth k) (κ : Lft) (q : Share) (x : RefT (List ℕ)) (ao al : Chars) (y : RefT (List ℕ)) (bo bl : Chars)
+    (px : Is (Sl κ) x (sv x ∷ [])) (pao : Is Ch ao (C′.lowered ao ∷ [])) (pal : Is Ch al (C′.lowered al ∷ [])) (py : Is (Sl κ) y (sv y ∷ [])) (pbo : Is Ch bo (C′.lowered bo ∷ [])) (pbl : Is Ch bl (C′.lowered bl ∷ [])) where
   abbrev a : Denots (Ps κ)
   a = (x, (ao, (al, (y, (bo, (bl, tt))))))
 
@@ -177,8 +178,8 @@ module _ {M : Type 1} (𝓤 : URA M) (H : Heap 𝓤) (A : Atoms 𝓤) (W : Given
   said₁ : (c : Choice) → ent 𝓤 (ensured 𝓤 H A choose.ended (choose.clauses 𝓤 H A mem run) (κ, (κ, tt)) b₁ tt c) (fact 𝓤 (Said₁ c))
   said₁ c = exE 𝓤 _ (λ ws. snd∗ 𝓤 (sem 𝓤 H A (lasts choose.ended (κ, (κ, tt)) b₁ ws)) (fact 𝓤 (Said₁ c)))
 
-  -- a unit and a choice are plain: what they own is had for nothing
-  module _ (pao : Is Ch ao (C′.lowered ao ∷ [])) (pal : Is Ch al (C′.lowered al ∷ [])) (pbo : Is Ch bo (C′.lowered bo ∷ [])) (pbl : Is Ch bl (C′.lowered bl ∷ [])) (c : Choice) (u : Val) (is : Is Cc c (u ∷ [])) where
+  -- the calls on the choice c, whose machine value is u. A unit and a choice are plain: what they own is had for nothing
+  module _ (c : Choice) (u : Val) (is : Is Cc c (u ∷ [])) where
     -- the call of `chosen_numbers`: the width, the numbers and the choice
     abbrev Qs₂ : List RattleType
     Qs₂ = usize ∷ Ch ∷ Ch ∷ Ch ∷ Ch ∷ Cc ∷ []
@@ -250,9 +251,8 @@ module _ {M : Type 1} (𝓤 : URA M) (H : Heap 𝓤) (A : Atoms 𝓤) (W : Given
   ch z p = LL.lawful Cs.the-type C′.the-laws 𝓤 H A W .typed z _ p .0
 
   module _ (C : Calls 𝓤 H) (Λ : Loops 𝓤 H) (fm : FmC 𝓤 H (W .laws) C) (known₁ : Triple 𝓤 (C #choose) (ChooseC 𝓤 H A mem run)) (known₂ : Triple 𝓤 (C #chosen-numbers) (NumbersC 𝓤 H A mem run)) (known₃ : Triple 𝓤 (C #chosen-part) (BytesC 𝓤 H A mem run)) where
-    walk : Is (Sl κ) x (sv x ∷ []) → Is Ch ao (C′.lowered ao ∷ []) → Is Ch al (C′.lowered al ∷ []) → Is (Sl κ) y (sv y ∷ []) → Is Ch bo (C′.lowered bo ∷ []) → Is Ch bl (C′.lowered bl ∷ [])
-        → ent 𝓤 (onEntry 𝓤 H A least.signature (κ, tt) (q, tt) a at) (WpFn 𝓤 H C Λ (fnOf k) (sv x ∷ C′.lowered ao ∷ C′.lowered al ∷ sv y ∷ C′.lowered bo ∷ C′.lowered bl ∷ []) Post)
-    walk px pao pal py pbo pbl =
+    walk : ent 𝓤 (onEntry 𝓤 H A least.signature (κ, tt) (q, tt) a at) (WpFn 𝓤 H C Λ (fnOf k) (sv x ∷ C′.lowered ao ∷ C′.lowered al ∷ sv y ∷ C′.lowered bo ∷ C′.lowered bl ∷ []) Post)
+    walk =
         qed W (raw (onEntry 𝓤 H A least.signature (κ, tt) (q, tt) a at) ∷ []) ∵ enter ! C Λ (fnOf k) (sv x ∷ C′.lowered ao ∷ C′.lowered al ∷ sv y ∷ C′.lowered bo ∷ C′.lowered bl ∷ []) _ $
         alloc1 ! (λ l0. alloc1 ! (λ l1. alloc1 ! (λ l2. alloc1 ! (λ l3. alloc1 ! (λ l4. alloc1 ! (λ l5. alloc1 ! (λ l6. alloc1 ! (λ l7. alloc1 ! (λ l8. alloc1 ! (λ l9. alloc1 ! (λ l10. alloc0 ! $ params1 ! $
         pass1 ! (init ! 18 refl (shr-slice-lawful 𝓤 H A W (named 0) κ u8 .typed x _ px .0)) $ pass1 ! (init ! 16 refl (ch ao pao)) $ pass1 ! (init ! 14 refl (ch al pal)) $
@@ -266,10 +266,10 @@ module _ {M : Type 1} (𝓤 : URA M) (H : Heap 𝓤) (A : Atoms 𝓤) (W : Given
         -- [the token; the parameters; _10; …]
         land ! (from ! (stop !)) (init ! 8 refl (LL.lawful D.the-type D′.the-laws 𝓤 H A W .typed c _ is .0)) $
         -- `chosen_numbers`
-        nothing ! $ use1 W (raw (NumbersC 𝓤 H A mem run .pre (to₂ pao pal pbo pbl c u is))) (goes₂ pao pal pbo pbl c u is) $
-        calls-at ! fm (NumbersC 𝓤 H A mem run) known₂ (to₂ pao pal pbo pbl c u is) (and-then ! (lit ! small) (and-then ! (load ! (from ! (stop !)) (look ! 19 refl)) (and-then ! (load ! (from ! (stop !)) (look ! 17 refl)) (and-then ! (load ! (from ! (stop !)) (look ! 13 refl)) (and-then ! (load ! (from ! (stop !)) (look ! 11 refl)) (and-then ! (load ! (from ! (stop !)) (look ! 9 refl)) (no-more !))))))) (λ v.
-        use1 W (later (some (λ (r : Numbers). (‵ ftrue ⊛ ‵ (Nm .own r (v ∷ []))) ⊛ raw (ensured 𝓤 H A numbers.ended (numbers.clauses 𝓤 H A mem run) tt (b₂ pao pal pbo pbl c u is) tt r)))) (id⊢ 𝓤 _) $ await ! tt $ pick ! (λ r.
-        split ! $ move ! (1 ∷ []) $ use1 W (raw (fact 𝓤 (Said₂ pao pal pbo pbl c u is r))) (said₂ pao pal pbo pbl c u is r) $ heard ! (Said₂ pao pal pbo pbl c u is r) (λ e₂. split ! $ drop ! $
+        nothing ! $ use1 W (raw (NumbersC 𝓤 H A mem run .pre (to₂ c u is))) (goes₂ c u is) $
+        calls-at ! fm (NumbersC 𝓤 H A mem run) known₂ (to₂ c u is) (and-then ! (lit ! small) (and-then ! (load ! (from ! (stop !)) (look ! 19 refl)) (and-then ! (load ! (from ! (stop !)) (look ! 17 refl)) (and-then ! (load ! (from ! (stop !)) (look ! 13 refl)) (and-then ! (load ! (from ! (stop !)) (look ! 11 refl)) (and-then ! (load ! (from ! (stop !)) (look ! 9 refl)) (no-more !))))))) (λ v.
+        use1 W (later (some (λ (r : Numbers). (‵ ftrue ⊛ ‵ (Nm .own r (v ∷ []))) ⊛ raw (ensured 𝓤 H A numbers.ended (numbers.clauses 𝓤 H A mem run) tt (b₂ c u is) tt r)))) (id⊢ 𝓤 _) $ await ! tt $ pick ! (λ r.
+        split ! $ move ! (1 ∷ []) $ use1 W (raw (fact 𝓤 (Said₂ c u is r))) (said₂ c u is r) $ heard ! (Said₂ c u is r) (λ e₂. split ! $ drop ! $
         -- [the numbers; the token; the parameters; _10; …]
         peeks ! Nm (Is Nm) (shows 𝓤 H A Nm) r (v ∷ []) (λ is₂.
         land ! (from ! (stop !)) (init ! 7 refl (LL.lawful N.the-type N′.the-laws 𝓤 H A W .typed r _ is₂ .0)) $
@@ -277,11 +277,11 @@ module _ {M : Type 1} (𝓤 : URA M) (H : Heap 𝓤) (A : Atoms 𝓤) (W : Given
         rewrite ! 0 (λ (z : Val). ‵ (Nm .own r (z ∷ []))) (ap only (LL.tells N.the-type N′.the-laws r _ is₂)) refl $
         peeks ! Nm (Is Nm) (shows 𝓤 H A Nm) r (nv r ∷ []) (λ js₂.
         -- `chosen_part`
-        move ! (1 ∷ 2 ∷ []) $ use2 W (raw (BytesC 𝓤 H A mem run .pre (to₃ pao pal pbo pbl c u is)) ⊛ ‵ Own) (goes₃ pao pal pbo pbl c u is e₁) $ split ! $
+        move ! (1 ∷ 2 ∷ []) $ use2 W (raw (BytesC 𝓤 H A mem run .pre (to₃ c u is)) ⊛ ‵ Own) (goes₃ c u is e₁) $ split ! $
         -- [what chosen_part asks; the parameters; the numbers; _10; …]
-        calls-at ! fm (BytesC 𝓤 H A mem run) known₃ (to₃ pao pal pbo pbl c u is) (and-then ! (lit ! small) (and-then ! (load ! (from ! (stop !)) (look ! 21 refl)) (and-then ! (load ! (from ! (stop !)) (look ! 19 refl)) (and-then ! (load ! (from ! (stop !)) (look ! 17 refl)) (and-then ! (load ! (from ! (stop !)) (look ! 15 refl)) (and-then ! (load ! (from ! (stop !)) (look ! 13 refl)) (and-then ! (load ! (from ! (stop !)) (look ! 11 refl)) (and-then ! (load ! (from ! (stop !)) (look ! 9 refl)) (no-more !))))))))) (λ z.
-        use1 W (later (some (λ (s : RefT (List ℕ)). (Token ⊛ ‵ (Sl κ .own s (z ∷ []))) ⊛ raw (ensured 𝓤 H A bytes.ended (bytes.clauses 𝓤 H A mem run) (κ, tt) (b₃ pao pal pbo pbl c u is) tt s)))) (id⊢ 𝓤 _) $ await ! tt $ pick ! (λ s.
-        split ! $ move ! (1 ∷ []) $ use1 W (raw (fact 𝓤 (Said₃ pao pal pbo pbl c u is s))) (said₃ pao pal pbo pbl c u is s) $ heard ! (Said₃ pao pal pbo pbl c u is s) (λ e₃. split ! $ move ! (1 ∷ []) $
+        calls-at ! fm (BytesC 𝓤 H A mem run) known₃ (to₃ c u is) (and-then ! (lit ! small) (and-then ! (load ! (from ! (stop !)) (look ! 21 refl)) (and-then ! (load ! (from ! (stop !)) (look ! 19 refl)) (and-then ! (load ! (from ! (stop !)) (look ! 17 refl)) (and-then ! (load ! (from ! (stop !)) (look ! 15 refl)) (and-then ! (load ! (from ! (stop !)) (look ! 13 refl)) (and-then ! (load ! (from ! (stop !)) (look ! 11 refl)) (and-then ! (load ! (from ! (stop !)) (look ! 9 refl)) (no-more !))))))))) (λ z.
+        use1 W (later (some (λ (s : RefT (List ℕ)). (Token ⊛ ‵ (Sl κ .own s (z ∷ []))) ⊛ raw (ensured 𝓤 H A bytes.ended (bytes.clauses 𝓤 H A mem run) (κ, tt) (b₃ c u is) tt s)))) (id⊢ 𝓤 _) $ await ! tt $ pick ! (λ s.
+        split ! $ move ! (1 ∷ []) $ use1 W (raw (fact 𝓤 (Said₃ c u is s))) (said₃ c u is s) $ heard ! (Said₃ c u is s) (λ e₃. split ! $ move ! (1 ∷ []) $
         -- [the slice; the token; the parameters; the numbers; _10; …]
         peeks ! (Sl κ) (Is (Sl κ)) (shows 𝓤 H A (Sl κ)) s (z ∷ []) (λ is₃.
         land ! (from ! (stop !)) (init ! 6 refl (shr-slice-lawful 𝓤 H A W erased κ u8 .typed s _ is₃ .0)) $
@@ -291,13 +291,13 @@ module _ {M : Type 1} (𝓤 : URA M) (H : Heap 𝓤) (A : Atoms 𝓤) (W : Given
         assigns ! (agg ! (and-then ! (load ! (from ! (stop !)) (look ! 6 refl)) (and-then ! (load ! (from ! (fld ! refl (stop !))) (look-in ! 8 (sub ! 0 refl (whole !)))) (and-then ! (load ! (from ! (fld ! refl (stop !))) (look-in ! 8 (sub ! 1 refl (whole !)))) (no-more !))))) (from ! (stop !)) (init ! 4 refl (LL.lawful (T.the-type (αᵉ κ)) (T′.the-laws (αᵉ κ)) 𝓤 H A W .typed (view-of r s) _ (is-view κ r s js₂ js₃) .0)) $
         assigns ! (agg ! (and-then ! (load ! (from ! (stop !)) (look ! 4 refl)) (and-then ! (load ! (from ! (fld ! refl (stop !))) (look-in ! 8 (sub ! 2 refl (whole !)))) (no-more !)))) (from ! (stop !)) (init ! 24 refl (LL.lawful (Dp κ) (Lp κ) 𝓤 H A W .typed (part-of r s) _ (is-part κ r s js₂ js₃) .0)) $
         returns ! (look ! 24 refl) $ forget ! 4 refl $ forget ! 6 refl $ forget ! 8 refl $ forget ! 10 refl $ forget ! 12 refl $ forget ! 14 refl $ forget ! 16 refl $ forget ! 18 refl $ forget ! 20 refl $ forget ! 22 refl $ forget ! 24 refl $
-        move ! (24 ∷ 25 ∷ []) $ free1 ! $ move ! (22 ∷ 23 ∷ []) $ free1 ! $ move ! (20 ∷ 21 ∷ []) $ free1 ! $ move ! (18 ∷ 19 ∷ []) $ free1 ! $ move ! (16 ∷ 17 ∷ []) $ free1 ! $ move ! (14 ∷ 15 ∷ []) $ free1 ! $ move ! (12 ∷ 13 ∷ []) $ free1 ! $ move ! (10 ∷ 11 ∷ []) $ free1 ! $ move ! (8 ∷ 9 ∷ []) $ free1 ! $ move ! (6 ∷ 7 ∷ []) $ free1 ! $ move ! (4 ∷ 5 ∷ []) $ free1 ! $ free0 ! $ by ! (exits pao pal pbo pbl c u is r s e₁ e₂ e₃))))))))))))))))))))))))))
+        move ! (24 ∷ 25 ∷ []) $ free1 ! $ move ! (22 ∷ 23 ∷ []) $ free1 ! $ move ! (20 ∷ 21 ∷ []) $ free1 ! $ move ! (18 ∷ 19 ∷ []) $ free1 ! $ move ! (16 ∷ 17 ∷ []) $ free1 ! $ move ! (14 ∷ 15 ∷ []) $ free1 ! $ move ! (12 ∷ 13 ∷ []) $ free1 ! $ move ! (10 ∷ 11 ∷ []) $ free1 ! $ move ! (8 ∷ 9 ∷ []) $ free1 ! $ move ! (6 ∷ 7 ∷ []) $ free1 ! $ move ! (4 ∷ 5 ∷ []) $ free1 ! $ free0 ! $ by ! (exits c u is r s e₁ e₂ e₃))))))))))))))))))))))))))
 
 module _ {M : Type 1} (𝓤 : URA M) (H : Heap 𝓤) (A : Atoms 𝓤) (W : Given 𝓤 H A) (mem : Memory → SProp 𝓤) (run : Routine → Fun 𝓤) (k : ℕ) (small : Holds (ltb k (2 ^ 64))) (width : IsWidth k) where
   walks : (C : Calls 𝓤 H) (Λ : Loops 𝓤 H) → FmC 𝓤 H (W .laws) C → Triple 𝓤 (C #choose) (ChooseC 𝓤 H A mem run) → Triple 𝓤 (C #chosen-numbers) (NumbersC 𝓤 H A mem run) → Triple 𝓤 (C #chosen-part) (BytesC 𝓤 H A mem run) → Walks 𝓤 H A least.ended stayed (WpFn 𝓤 H C Λ (fnOf k)) (clausesOf 𝓤 k)
   walks C Λ fm known₁ known₂ known₃ = walked 𝓤 H A least.ended stayed (clausesOf 𝓤 k) (WpFn 𝓤 H C Λ (fnOf k))
       (λ κs. (slice-vals, (LL.vals Cs.the-type C′.the-laws, (LL.vals Cs.the-type C′.the-laws, (slice-vals, (LL.vals Cs.the-type C′.the-laws, (LL.vals Cs.the-type C′.the-laws, tt))))))) (λ κs. (shr-slice-tells (named 0) (κs .0) u8, (LL.tells Cs.the-type C′.the-laws, (LL.tells Cs.the-type C′.the-laws, (shr-slice-tells (named 0) (κs .0) u8, (LL.tells Cs.the-type C′.the-laws, (LL.tells Cs.the-type C′.the-laws, tt)))))))
-      (λ κs qs bounds a g are. via 𝓤 _ (fst∗ 𝓤 _ (emp 𝓤)) (walk 𝓤 H A W mem run k small width (κs .0) (qs .0) (a .0) (a .1 .0) (a .1 .1 .0) (a .1 .1 .1 .0) (a .1 .1 .1 .1 .0) (a .1 .1 .1 .1 .1 .0) C Λ fm known₁ known₂ known₃ (are .0) (are .1 .0) (are .1 .1 .0) (are .1 .1 .1 .0) (are .1 .1 .1 .1 .0) (are .1 .1 .1 .1 .1 .0)))
+      (λ κs qs bounds a g are. via 𝓤 _ (fst∗ 𝓤 _ (emp 𝓤)) (walk 𝓤 H A W mem run k small width (κs .0) (qs .0) (a .0) (a .1 .0) (a .1 .1 .0) (a .1 .1 .1 .0) (a .1 .1 .1 .1 .0) (a .1 .1 .1 .1 .1 .0) (are .0) (are .1 .0) (are .1 .1 .0) (are .1 .1 .1 .0) (are .1 .1 .1 .1 .0) (are .1 .1 .1 .1 .1 .0) C Λ fm known₁ known₂ known₃))
 
   pub meets : (𝓣 : Tables 𝓤 H) → Triple 𝓤 (𝓣 .C #choose) (ChooseC 𝓤 H A mem run) → Triple 𝓤 (𝓣 .C #chosen-numbers) (NumbersC 𝓤 H A mem run) → Triple 𝓤 (𝓣 .C #chosen-part) (BytesC 𝓤 H A mem run)
       → Meets 𝓤 H A least.signature (WpFn 𝓤 H (𝓣 .C) (𝓣 .Λ) (fnOf k)) (closing 𝓤 H A least.ended (clausesOf 𝓤 k))
