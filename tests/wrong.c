@@ -1,5 +1,5 @@
 /*
- * Calls that are wrong on purpose, each over the right one (the linker's --wrap): tests/run-fuzz links one at a time, and the random calls
+ * Calls that are wrong on purpose, each over the right one (the linker's --wrap): tests/run-fuzz and tests/run-form link one at a time, and
  * must find it.
  */
 #include <tsivelaro.h>
@@ -75,6 +75,23 @@ OVER(form_read, const uint8_t *form, size_t size, uint8_t *bases, size_t bases_s
     uint32_t no = REAL(form_read)(form, size, bases, bases_size, flags, flags_size, len);
     if (!no && *len)
         --*len;
+    return no;
+}
+#elif defined TAKES_ANY_FORM
+OVER(form_read, const uint8_t *form, size_t size, uint8_t *bases, size_t bases_size, uint8_t *flags, size_t flags_size,
+     size_t *len)
+{
+    uint32_t no = REAL(form_read)(form, size, bases, bases_size, flags, flags_size, len);
+    return no == TSIV_BAD_FORM ? 0 : no;
+}
+#elif defined WRITES_OTHERWISE
+OVER(form_write, const uint8_t *bases, size_t bases_size, size_t base_offset, size_t base_len, const uint8_t *flags,
+     size_t flags_size, size_t flag_offset, size_t flag_len, uint8_t *out, size_t out_size, size_t *written)
+{
+    uint32_t no = REAL(form_write)(bases, bases_size, base_offset, base_len, flags, flags_size, flag_offset, flag_len,
+                                   out, out_size, written);
+    if (!no && base_len)
+        out[*written - 1] ^= 1;
     return no;
 }
 #endif
