@@ -10,6 +10,7 @@ pub mod Net
 pub mod Pairs
 pub mod FieldLaws
 pub mod Turns
-pub mod ZeroLaws
+pub mod MadeLaws
+pub mod PackedLaws
 pub mod Permitted
 pub mod Decided

@@ -53,5 +53,8 @@ unfoldable pub lanes : List ℕ → ℕ → ℕ → ℕ → List ℕ
 lanes cs n d j = tab 8 (laneChar cs n d j)
 
 -- filling writes step j, lane l to entry 8 j + l; later entries stay
+abbrev pub laneEntry : List ℕ → ℕ → ℕ → ℕ → ℕ
+laneEntry cs n d q = laneChar cs n d (q / 8) (q % 8)
+
 unfoldable pub filled : List ℕ → ℕ → ℕ → ℕ → List ℕ → List ℕ
-filled cs n d count out = tab (8 * count) (λ e. laneChar cs n d (e / 8) (e % 8)) ++ drop (8 * count) out
+filled cs n d count out = tab (8 * count) (laneEntry cs n d) ++ drop (8 * count) out

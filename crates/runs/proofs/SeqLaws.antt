@@ -12,10 +12,12 @@ use lib.Seq.{getD-append-add}
 use Rattle.codes.specs.Codes.{IsWidth, per, up, charAt, chars}
 use Rattle.codes.specs.Words.{word}
 use Rattle.codes.proofs.CharLaws.{length-chars, getD-chars, charAt-lt, byte-charAt}
+use Rattle.codes.proofs.CodeLaws.{pick-lt}
 use Rattle.codes.proofs.TabLaws.{tab-ext}
 use Rattle.codes.proofs.WidthLaws.{below-or, per-pos, width-pos, up-hi, up-above}
-use Rattle.runs.specs.Runs.{freshChar, freshByte, seqChars, seqStart, gapChar}
-use Rattle.runs.proofs.SpliceLaws.{splice-new, pick-lt}
+use Rattle.runs.specs.Bytes.{freshChar, freshByte}
+use Rattle.runs.specs.Runs.{seqChars, seqStart, gapChar}
+use Rattle.runs.proofs.SpliceLaws.{splice-new}
 
 pub getD-right : (xs ys : List ℕ) (i : ℕ) → length xs ≤ i → getD (xs ++ ys) i 0 ≡ getD ys (i - length xs) 0
 getD-right xs ys i h = ap (λ (x : ℕ). getD (xs ++ ys) x 0) (omega arith) ∙ getD-append-add xs ys (i - length xs) 0

@@ -10,7 +10,7 @@ use Rattle.codes.specs.Words.{word}
 use Rattle.codes.proofs.CodeLaws.{code-lt}
 use Rattle.codes.proofs.TabLaws.{length-tab, tab-ext, tab-append, Below-tab}
 use Rattle.codes.proofs.WordLaws.{word-append, word-lt}
-use Rattle.runs.specs.Runs.{lettersWord}
+use Rattle.runs.specs.Bytes.{lettersWord}
 
 module _ (w : ℕ) (ls : List ℕ) where
   pub letters-one : (i : ℕ) → lettersWord w 1 ls i ≡ code w (getD ls i 0)

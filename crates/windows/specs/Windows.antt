@@ -27,13 +27,20 @@ abbrev pub laneWindow : List ℕ → ℕ → ℕ → ℕ → ℕ → ℕ
 laneWindow flags n k j l = pick (window flags (l * n + (suc j - k)) (min k (suc j))) 0xffff_ffff 0
 
 -- windows use entry 8 (j − skip) + l
+abbrev pub windowEntry : List ℕ → ℕ → ℕ → ℕ → ℕ → ℕ
+windowEntry flags n k skip q = laneWindow flags n k (skip + q / 8) (q % 8)
+
 unfoldable pub windowsFilled : List ℕ → ℕ → ℕ → ℕ → ℕ → List ℕ → List ℕ
-windowsFilled flags n k skip count out = tab (8 * count) (λ e. laneWindow flags n k (skip + e / 8) (e % 8)) ++ drop (8 * count) out
+windowsFilled flags n k skip count out = tab (8 * count) (windowEntry flags n k skip) ++ drop (8 * count) out
 
 -- the running state: eight lane counts, and the step
 pub record Running : Type 0 where
   pub counts : List ℕ
   pub at : ℕ
+
+-- step 0 with zero counts
+abbrev pub atZero : Running
+atZero = record { counts = replicate 8 0; at = 0 }
 
 -- the sum of a lane's count and its entering flag
 abbrev pub summed : List ℕ → ℕ → Running → ℕ → ℕ
@@ -87,4 +94,10 @@ runAnswers bs o len c k s = ifDone (runOutcome bs o len c k s) (stepAnswers (cha
 
 unfoldable pub runState : List ℕ → ℕ → ℕ → ℕ → ℕ → Running → Running
 unfolding runOutcome
-runState bs o len c k s = ifDone (runOutcome bs o len c k s) (stepState (chars 1 bs o len) (lane 1 len c 1) k s) (record { counts = replicate 8 0; at = 0 })
+runState bs o len c k s = ifDone (runOutcome bs o len c k s) (stepState (chars 1 bs o len) (lane 1 len c 1) k s) atZero
+
+-- the state after j steps from step 0 with zero counts
+unfoldable pub ran : List ℕ → ℕ → ℕ → ℕ → ℕ → ℕ → Running
+unfolding runState
+ran bs o len c k zero = atZero
+ran bs o len c k (suc j) = runState bs o len c k (ran bs o len c k j)

@@ -9,16 +9,18 @@ use lib.ListN.{length, take, drop, length-append, length-drop, replicate, length
 use lib.Pow.{low, shr-shr}
 use lib.Seq.{sets, drop-append-add, drop-drop, take-append-le}
 use Rattle.codes.specs.Codes.{IsWidth, per, up, complement, chars}
+use Rattle.codes.specs.Made.{Made}
 use Rattle.codes.specs.Words.{word, charsOf, flip, packed}
 use Rattle.codes.proofs.CharLaws.{length-chars, chars-fit}
 use Rattle.codes.proofs.FieldLaws.{mod-low}
+use Rattle.codes.proofs.MadeLaws.{made-zeros}
+use Rattle.codes.proofs.PackedLaws.{packed-is}
 use Rattle.codes.proofs.WidthLaws.{width-pos}
 use Rattle.codes.proofs.WordLaws.{Below, flip-add, flip-lt, flip-short, flip-fits, flip-mod, flip-from, charsOf-add, charsOf-mod, length-charsOf, charsOf-take, Below-reverse, Below-through}
 use Rattle.fields.specs.Fields.{flipped}
 use Rattle.writes.specs.Writes.{flippedOver}
 use Rattle.fields.proofs.LoadLaws.{whole}
-use Rattle.codes.specs.Zeros.{Zeroed}
-use Rattle.writes.proofs.WriteLaws.{sets-at, packed-is, zeroed-is}
+use Rattle.writes.proofs.WriteLaws.{sets-at}
 use Rattle.fields.proofs.FlipLaws.{complement-fits, shift-is, flip-field}
 
 -- only a word's low characters count in its flip
@@ -56,15 +58,24 @@ module _ {w : ℕ} (W : IsWidth w) (s p left x r : ℕ) (e : w * (left / w) ≡ 
   pub flip-step-word : 64 ≤ left → x ≡ s / 2 ^ (p + (left - 64)) % 2 ^ 64 → r ≡ flip w (complement w) (left / w) (s / 2 ^ p) % 2 ^ 64
   flip-step-word l ex =
       er
-      ∙ ap (flip w (complement w) (64 / w)) (ex ∙ ap (λ (y : ℕ). y % 2 ^ 64) (sym (shr-shr s p (left - 64)) ∙ ap (λ (n : ℕ). s / 2 ^ p / 2 ^ n) (sym wj)))
-      ∙ flip-low w (complement w) (64 / w) 64 (s / 2 ^ p / 2 ^ (w * j)) (le-of-eq (whole W 8))
-      ∙ sym (ap (λ (n : ℕ). flip w (complement w) n (s / 2 ^ p) % 2 ^ 64) (sym jk)
-      ∙ ap (λ (y : ℕ). y % 2 ^ 64) (flip-add w (complement w) j (64 / w) (s / 2 ^ p))
-      ∙ subst (λ (n : ℕ). (flip w (complement w) j (s / 2 ^ p) * 2 ^ (w * (64 / w)) + flip w (complement w) (64 / w) (s / 2 ^ p / 2 ^ (w * j))) % 2 ^ n ≡ flip w (complement w) (64 / w) (s / 2 ^ p / 2 ^ (w * j))) (whole W 8)
-      (low (flip w (complement w) j (s / 2 ^ p)) (w * (64 / w)) (flip-lt w (complement w) (complement-fits w) (64 / w) (s / 2 ^ p / 2 ^ (w * j)))))
+      ∙ ap (flip w (complement w) (64 / w)) (ex ∙ ap (λ (y : ℕ). y % 2 ^ 64) (sym (shr-shr s p (left - 64)) ∙ ap (λ (n : ℕ). v / 2 ^ n) (sym wj)))
+      ∙ flip-low w (complement w) (64 / w) 64 (v / 2 ^ (w * j)) (le-of-eq (whole W 8))
+      ∙ sym (ap (λ (n : ℕ). flip w (complement w) n v % 2 ^ 64) (sym jk)
+      ∙ ap (λ (y : ℕ). y % 2 ^ 64) (flip-add w (complement w) j (64 / w) v)
+      ∙ subst (λ (n : ℕ). (hi * 2 ^ (w * (64 / w)) + lo) % 2 ^ n ≡ lo) (whole W 8)
+      (low hi (w * (64 / w)) (flip-lt w (complement w) (complement-fits w) (64 / w) (v / 2 ^ (w * j)))))
     where
+      v : ℕ
+      v = s / 2 ^ p
+
       j : ℕ
       j = (left - 8 * 8) / w
+
+      hi : ℕ
+      hi = flip w (complement w) j v
+
+      lo : ℕ
+      lo = flip w (complement w) (64 / w) (v / 2 ^ (w * j))
 
       jk : j + 64 / w ≡ left / w
       jk = eq-of-mul-eq-mul-left w (width-pos W) (j + 64 / w) (left / w) (mul-add w j (64 / w) ∙ ap₂ (λ (a b : ℕ). a + b) (rest-is W left 8 e l) (whole W 8) ∙ sub-add-cancel l ∙ sym e)
@@ -92,10 +103,10 @@ flip-turn {w} W v bits at old out x e l m ex eo =
 
 -- the reversed view's bytes, zeros behind, and the rest of the buffer
 pub flipped-written : {w : ℕ} → IsWidth w → (s : List ℕ) → Below 8 s → (o len used m : ℕ) (old mid new : List ℕ) → used ≡ up w len → used ≤ m → m ≤ used + 48 → used + 48 ≤ length old
-    → mid ≡ charsOf 8 m (flip w (complement w) len (word 8 s / 2 ^ (w * o))) ++ drop m old → Zeroed mid used (used + 48) new → new ≡ flippedOver w s o len old
+    → mid ≡ charsOf 8 m (flip w (complement w) len (word 8 s / 2 ^ (w * o))) ++ drop m old → Made (λ j. 0) used (used + 48) mid new → new ≡ flippedOver w s o len old
 unfolding flippedOver
 flipped-written {w} W s b o len used m old mid new eu lo hi room em z =
-    zeroed-is mid new used 48 (subst (λ (n : ℕ). used + 48 ≤ n) (sym size) room) z
+    made-zeros used 48 z (subst (λ (n : ℕ). used + 48 ≤ n) (sym size) room)
     ∙ ap₂ (λ (p q : List ℕ). p ++ (replicate 48 0 ++ q)) front back
   where
     cs : List ℕ

@@ -3,11 +3,15 @@
 use mathlib.Core.List.{List, [], _∷_, _++_, map}
 use Prim.Native.Nat.{ℕ, _+_}
 use lib.ListN.{length, drop, replicate}
-use Rattle.codes.specs.Codes.{up, chars, letter}
+use Rattle.codes.specs.Codes.{up, charAt, chars, letter}
 use Rattle.codes.specs.Refusals.{first, noRoom}
 use Rattle.codes.specs.Words.{packed}
 use Rattle.codes.specs.declared.refusals.Outcome.{Outcome}
 use Rattle.fields.specs.Fields.{viewTests, flipped}
+
+-- the letter of base o + j
+abbrev pub letterAt : List ℕ → ℕ → ℕ → ℕ
+letterAt bs o j = letter (charAt 2 bs (o + j))
 
 -- unpacking writes the capital letters of bases; later bytes stay
 unfoldable pub unpackOutcome : List ℕ → ℕ → ℕ → List ℕ → Outcome

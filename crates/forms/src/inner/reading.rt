@@ -11,7 +11,6 @@ use codes::units::Chars;
 ghost use mathlib.Core.Option.{none};
 ghost use mathlib.Core.Path.{_≡_};
 ghost use Prim.Native.Nat.{_≤_, _<_, _^_};
-ghost use lib.ListN.{length};
 ghost use Rattle.codes.specs.Codes.{pick};
 ghost use Rattle.codes.specs.Refusals.{answer, first};
 ghost use Rattle.forms.specs.Answers.{spelledSays, checkedSays};

@@ -7,11 +7,11 @@ ghost use mathlib.Core.Path.{_≡_};
 ghost use Prim.Native.Nat.{_*_, _^_, _≤_, min};
 ghost use lib.ListN.{length};
 ghost use Rattle.codes.specs.Codes.{IsWidth, chars};
+ghost use Rattle.codes.specs.Made.{Made};
 ghost use Rattle.codes.specs.Refusals.{first};
 ghost use Rattle.codes.specs.declared.refusals.Outcome.the-variants.{Done};
 ghost use Rattle.fields.specs.Fields.{viewTests};
 ghost use Rattle.lanes.specs.Lanes.{lane, steps, streamTests, filled};
-ghost use Rattle.lanes.specs.Written.{Written};
 
 pub fn smaller(m: usize, n: usize) -> usize
     ensures { λ r. ⌜ r ≡ min m n ⌝ }
@@ -22,7 +22,7 @@ pub fn smaller(m: usize, n: usize) -> usize
 // Zeros below entry `to`.
 fn zero_entries(out: &mut [u32], to: usize)
     requires { ⌜ to ≤ length (now out) ⌝ }
-    ensures { λ _. ⌜ Written (λ q. 0) 0 to (now (out .entry)) (now (out .exit)) ⌝ }
+    ensures { λ _. ⌜ Made (λ j. 0) 0 to (now (out .entry)) (now (out .exit)) ⌝ }
 {
     let mut q: usize = 0;
     while q < to {
@@ -73,7 +73,8 @@ pub fn fill_one(
     requires { ⌜ IsWidth w ⌝ }
     requires { ⌜ first (streamTests w (now bytes) (offset .0) (len .0) (context .0) factor 0 0) ≡ Done ⌝ }
     requires { ⌜ 8 * steps w (len .0) (context .0) factor ≤ length (now out) ⌝ }
-    ensures { λ _. ⌜ now (out .exit) ≡ filled (chars w (now (bytes .entry)) (offset .0) (len .0)) (lane w (len .0) (context .0) factor) (d .0) (steps w (len .0) (context .0) factor) (now (out .entry)) ⌝ }
+    ensures { λ _. ⌜ now (out .exit) ≡ filled (chars w (now (bytes .entry)) (offset .0) (len .0)) (lane w (len .0) (context .0) factor) (d .0)
+        (steps w (len .0) (context .0) factor) (now (out .entry)) ⌝ }
 {
     let p = plan_of(w, len, context, factor);
     let n = p.lane;

@@ -3,7 +3,7 @@ use codes::inner::counts::byte_of;
 use codes::inner::counts::bytes_for;
 use codes::units::Chars;
 ghost use Rattle.codes.specs.Codes.{IsWidth};
-ghost use Rattle.runs.specs.Runs.{Bounded};
+ghost use Rattle.runs.specs.Bytes.{Bounded};
 
 // Where a run starts, where its whole bytes start and stop, and where it stops.
 pub struct Bounds {

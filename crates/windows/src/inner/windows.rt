@@ -89,7 +89,8 @@ fn window_one(
 )
     requires { ⌜ first (windowTests (now bytes) (offset .0) (len .0) (context .0) (k .0)) ≡ Done ⌝ }
     requires { ⌜ 8 * (steps 1 (len .0) (context .0) 1 - skip) ≤ length (now out) ⌝ }
-    ensures { λ _. ⌜ now (out .exit) ≡ windowsFilled (chars 1 (now (bytes .entry)) (offset .0) (len .0)) (lane 1 (len .0) (context .0) 1) (k .0) skip (steps 1 (len .0) (context .0) 1 - skip) (now (out .entry)) ⌝ }
+    ensures { λ _. ⌜ now (out .exit) ≡ windowsFilled (chars 1 (now (bytes .entry)) (offset .0) (len .0)) (lane 1 (len .0) (context .0) 1) (k .0) skip
+        (steps 1 (len .0) (context .0) 1 - skip) (now (out .entry)) ⌝ }
 {
     let p = plan_of(1, len, context, 1);
     let n = p.lane;

@@ -41,7 +41,8 @@ fn flip_words(w: usize, bytes: &[u8], p: usize, bits: usize, out: &mut [u8])
     requires { ⌜ w ≤ 2 ⌝ }
     requires { ⌜ w * (bits / w) ≡ bits ⌝ }
     requires { ⌜ (p + bits < 2 ^ 32) × (p + bits + 384 ≤ 8 * length (now bytes)) × (bits + 64 ≤ 8 * length (now out)) ⌝ }
-    ensures { λ _. ⌜ now (out .exit) ≡ charsOf 8 (8 * ((bits + 63) / 64)) (flip w (complement w) (bits / w) (word 8 (now (bytes .entry)) / 2 ^ p)) ++ drop (8 * ((bits + 63) / 64)) (now (out .entry)) ⌝ }
+    ensures { λ _. ⌜ now (out .exit) ≡ charsOf 8 (8 * ((bits + 63) / 64)) (flip w (complement w) (bits / w) (word 8 (now (bytes .entry)) / 2 ^ p))
+        ++ drop (8 * ((bits + 63) / 64)) (now (out .entry)) ⌝ }
 {
     let mut at: usize = 0;
     while 8 * at < bits {

@@ -5,9 +5,10 @@ use native.Mathlib.Omega.{arith}
 use lib.ListN.{length}
 use borrow.Author.Needs.{needs}
 use Rattle.codes.specs.Words.{charsOf}
+use Rattle.codes.proofs.PackedLaws.{up-bits}
 use Rattle.codes.proofs.TabLaws.{Below-of}
 use Rattle.fields.proofs.LoadLaws.{Bits, view-bits}
-use Rattle.forms.proofs.TrackLaws.{Packing, packing-turn, packing-end, up-bits}
+use Rattle.forms.proofs.TrackLaws.{Packing, packing-turn, packing-end}
 use Rattle.forms.proofs.inner.tracks.pack_view.Statement.{statement}
 use Rattle.forms.proofs.inner.tracks.pack_view.Tie as tie
 
