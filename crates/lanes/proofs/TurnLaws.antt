@@ -10,9 +10,8 @@ use lib.Pow.{pow-pos, pow-mono, shr-shr}
 use Rattle.codes.specs.Codes.{IsWidth, chars}
 use Rattle.codes.specs.Words.{word}
 use Rattle.codes.proofs.FieldLaws.{field-of}
-use Rattle.codes.proofs.WidthLaws.{below-or, width-pos}
+use Rattle.codes.proofs.WidthLaws.{below-or, width-pos, whole}
 use Rattle.codes.proofs.WordLaws.{Below}
-use Rattle.fields.proofs.LoadLaws.{whole}
 use Rattle.lanes.specs.Lanes.{laneChar}
 use Rattle.lanes.specs.Written.{Written, Holds, turned}
 use Rattle.lanes.proofs.LaneLaws.{char-past, char-within, laneChar-early, laneChar-late}

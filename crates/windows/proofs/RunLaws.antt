@@ -25,7 +25,8 @@ use Rattle.lanes.specs.Lanes.{lane, steps, badShape, laneChar, lanes}
 use Rattle.streams.specs.Streams.{badStep}
 use Rattle.windows.specs.Windows.{badWindow, badState, Running, summed, leaving, anyLane, stepAnswers, stepState, windowTests, runOutcome, runAnswers, runState}
 use Rattle.windows.proofs.WindowLaws.{or-true}
-use Rattle.lanes.proofs.ShapeLaws.{neither, not-first, first-of-two, second-of-two, none-of-two}
+use Rattle.codes.proofs.RefusalLaws.{neither}
+use Rattle.lanes.proofs.ShapeLaws.{not-first, first-of-two, second-of-two, none-of-two}
 
 pub any-step : (l : ℕ) (f : ℕ → Bool) → anyLane (l + 1) f ≡ (anyLane l f || f l)
 any-step l f = ap (λ (n : ℕ). anyLane n f) (add-one l)

@@ -24,7 +24,7 @@ pub fn pack(letters: &[u8]) -> u64
 const LETTERS: [u8; 4] = [65, 67, 84, 71];
 
 // The capital letter of the lowest base of a byte.
-pub fn letter_of(x: u8) -> u8
+pub fn low_letter(x: u8) -> u8
     ensures { λ r. ⌜ r ≡ letter (x % 4) ⌝ }
 {
     LETTERS[(x % 4) as usize]
@@ -39,7 +39,7 @@ pub fn unpack(x: u64, k: usize, out: &mut [u8])
     let mut i: usize = 0;
     while i < k {
         let c = (rest % 4) as u8;
-        out[i] = letter_of(c);
+        out[i] = low_letter(c);
         rest = rest / 4;
         i += 1;
     }
