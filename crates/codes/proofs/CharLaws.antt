@@ -1,19 +1,18 @@
 -- The laws of characters in byte strings, over the width: packing and unpacking are each other's inverse.
 -- Assumes nothing.
-use mathlib.Core.List.{List, [], _∷_, _++_}
-use mathlib.Core.Path.{_≡_, refl, sym, ap, ap₂, _∙_, subst}
-use Prim.Native.Nat.{ℕ, _+_, _-_, _*_, _/_, _%_, _^_, _≤_, _<_}
+use mathlib.Core.List.{List, _++_, map, reverse}
+use mathlib.Core.Path.{_≡_, sym, ap, ap₂, _∙_, subst}
+use Prim.Native.Nat.{ℕ, _+_, _-_, _*_, _/_, _%_, _^_, _<_}
 use native.Mathlib.Nat.{add-assoc, zero-add, mod-lt, mod-eq-of-lt, div-add-mod', div-lt-iff-lt-mul, lt-of-lt-of-le}
-use native.Mathlib.Omega.{arith}
 use lib.Arith.{digits-lt, digits-div, digits-mod}
-use lib.ListN.{length, getD, List·getD-eq-default}
+use lib.ListN.{length, getD}
 use lib.Pow.{pow-pos}
 use lib.Seq.{ext-getD}
 use Rattle.codes.specs.Codes.{per, up, IsWidth, charAt, tab, chars}
-use Rattle.codes.specs.Words.{word, charsOf, pack, packed}
+use Rattle.codes.specs.Words.{word, flip, pack, packed}
 use Rattle.codes.proofs.TabLaws.{length-tab, getD-tab, tab-ext, tab-append, Below-tab, Below-getD, word-at, charsOf-tab}
 use Rattle.codes.proofs.WidthLaws.{per-pos, up-hi, up-whole}
-use Rattle.codes.proofs.WordLaws.{Below, word-lt, word-charsOf}
+use Rattle.codes.proofs.WordLaws.{Below, word-lt, word-charsOf, flip-word}
 
 pub length-chars : (w : ℕ) (bs : List ℕ) (o n : ℕ) → length (chars w bs o n) ≡ n
 unfolding chars
@@ -41,6 +40,12 @@ charAt-lt w bs i = mod-lt (getD bs (i / per w) 0 / 2 ^ (w * (i % per w))) (pow-p
 pub chars-fit : (w : ℕ) (bs : List ℕ) (o n : ℕ) → Below w (chars w bs o n)
 unfolding chars
 chars-fit w bs o n = Below-tab w n (λ i. charAt w bs (o + i)) (λ i. charAt-lt w bs (o + i))
+
+-- the flip of their word is the word of them in reverse
+pub flip-chars : (w : ℕ) (f : ℕ → ℕ) (bs : List ℕ) (o n : ℕ) → flip w f n (word w (chars w bs o n)) ≡ word w (reverse (map f (chars w bs o n)))
+flip-chars w f bs o n =
+    subst (λ (k : ℕ). flip w f k (word w (chars w bs o n)) ≡ word w (reverse (map f (chars w bs o n)))) (length-chars w bs o n)
+    (flip-word w f (chars w bs o n) (chars-fit w bs o n))
 
 pub length-pack : (w n : ℕ) (f : ℕ → ℕ) → length (pack w n f) ≡ n
 unfolding pack

@@ -47,5 +47,9 @@ code-lt {w} W x =
       | no n ↦ rw (ne-eqb w 1 n) (lt-of-lt-of-le {m = 4} (mod-lt (x / 2) (lit< tt)) (pow-mono {i = 2} (omega (arith, width-pos W))))
     ]
 
-pub complement-lt : (c : ℕ) → c < 2 ^ 2 → complement 2 c < 2 ^ 2
-complement-lt c h = xor-lt 2 c 2 h (lit< tt)
+pub complement-fits : (w c : ℕ) → c < 2 ^ w → complement w c < 2 ^ w
+complement-fits w c h =
+    elim (ℕ-discrete w 2) [
+      | yes e ↦ rw (eq-eqb w 2 e) (xor-lt w c 2 h (rw e (lit< tt)))
+      | no n ↦ rw (ne-eqb w 2 n) h
+    ]

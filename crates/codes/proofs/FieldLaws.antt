@@ -1,14 +1,13 @@
 -- A string of bytes as one number: its characters are the number's digits at any width that divides a byte, and the word of a view is a field of it.
 -- Assumes nothing.
-use mathlib.Core.List.{List}
+use mathlib.Core.List.{List, map, reverse}
 use mathlib.Core.Path.{_≡_, sym, ap, ap₂, _∙_, subst}
 use Prim.Native.Nat.{ℕ, _+_, _-_, _*_, _/_, _%_, _^_, _≤_, _<_}
-use native.Mathlib.Nat.{mul-assoc, mul-comm, mul-add, mul-suc, add-comm, div-add-mod', mod-lt, sub-add-cancel, mul-le-mul-left}
+use native.Mathlib.Nat.{mul-assoc, mul-comm, mul-add, add-comm, div-add-mod', mod-lt, sub-add-cancel}
 use native.Mathlib.Omega.{arith}
-use lib.ListN.{getD}
 use lib.Pow.{shr-shr, field, mod-mod-pow, mod-pow-add}
 use Rattle.codes.specs.Codes.{per, IsWidth, charAt, chars}
-use Rattle.codes.specs.Words.{word, charsOf}
+use Rattle.codes.specs.Words.{word, charsOf, flip}
 use Rattle.codes.proofs.Pairs.{halves-of}
 use Rattle.codes.proofs.TabLaws.{tab-ext, word-at, charsOf-tab}
 use Rattle.codes.proofs.WidthLaws.{per-pos, shift-fits}
@@ -55,6 +54,11 @@ module _ {w : ℕ} (W : IsWidth w) (s : List ℕ) (bytes : Below 8 s) where
   -- a view's word is a field of the number
   pub word-chars : (o k : ℕ) → word w (chars w s o k) ≡ word 8 s / 2 ^ (w * o) % 2 ^ (w * k)
   word-chars o k = ap (word w) (chars-are o k) ∙ word-charsOf w k (word 8 s / 2 ^ (w * o))
+
+  -- and the word of the view in reverse is a flip of it
+  pub flip-field : (f : ℕ → ℕ) (o k : ℕ) → flip w f k (word 8 s / 2 ^ (w * o)) ≡ word w (reverse (map f (chars w s o k)))
+  unfolding flip
+  flip-field f o k = ap (λ (l : List ℕ). word w (reverse (map f l))) (sym (chars-are o k))
 
 -- two neighbouring fields of k bits
 pub join-fields : (n p q k : ℕ) → q ≡ p + k → n / 2 ^ p % 2 ^ k + n / 2 ^ q % 2 ^ k * 2 ^ k ≡ n / 2 ^ p % 2 ^ (k + k)

@@ -8,6 +8,7 @@ pub mod TabLaws
 pub mod CharLaws
 pub mod Net
 pub mod Pairs
+pub mod FlipLaws
 pub mod FieldLaws
 pub mod Turns
 pub mod MadeLaws

@@ -1,9 +1,9 @@
 -- A network of swaps: the two halves of each field of b + b bits change places all over a word, at 32, at 16 and so on down, which reverses the word's fields of b bits.
 -- Assumes nothing.
-use mathlib.Core.Path.{_≡_, refl, sym, ap, ap₂, _∙_}
-use Prim.Native.Nat.{ℕ, zero, suc, _+_, _-_, _*_, _/_, _%_, _^_, _≤_, _<_}
-use native.Mathlib.Nat.{mod-lt, add-mul, add-assoc, mul-assoc, mul-right-comm, mul-add, mul-suc, zero-mul, suc-add, add-suc, lt-of-lt-of-le, le-add-right, mod-eq-of-lt, lt-of-le-of-lt, mul-le-mul-right}
-use native.Mathlib.Omega.{arith}
+use mathlib.Core.Path.{_≡_, sym, ap, ap₂, _∙_}
+use Prim.Native.Nat.{ℕ, zero, suc, _+_, _-_, _*_, _/_, _%_, _^_, _<_}
+use native.Mathlib.Nat.{add-mul, add-assoc, mul-assoc, mul-right-comm, mul-add, mul-suc, zero-mul, suc-add, add-suc}
+use native.Mathlib.Nat.{mod-lt, mod-eq-of-lt, lt-of-lt-of-le, lt-of-le-of-lt, le-add-right, mul-le-mul-right}
 use lib.Pow.{pow-pos, pow-mono, pow-add, split, high, low, shr-shr, field, mod-mod-pow, ones-lt, shl-lt}
 use lib.Bits.{bitAnd, bitOr, bitXor, and-block, or-block, xor-block, and-mask, and-zero-r, or-shifted-r, and-le-r}
 use Rattle.codes.specs.Words.{flip, same}
@@ -62,11 +62,17 @@ level b zero x = sym (flip-none b same x)
 level b (suc n) x =
     ap (swaps b (suc n)) (flip-step (b + b) same n x)
     ∙ ap₂ (λ (p q : ℕ). p * 2 ^ (b + b) + q)
-    (ap (swaps b n) (high (flip (b + b) same n x) (b + b) (mod-lt e (pow-pos (b + b)))) ∙ level b n x)
-    (ap₂ (λ (p q : ℕ). p * 2 ^ b + q) (low-half b (flip (b + b) same n x) e ∙ ap (λ (y : ℕ). y % 2 ^ b) e-is) (high-half b (flip (b + b) same n x) e ∙ ap (λ (y : ℕ). y % 2 ^ b) (ap (λ (y : ℕ). y / 2 ^ b) e-is ∙ next)))
-    ∙ two-fields b (flip b same (n + n) x) (x / 2 ^ (b * (n + n)) % 2 ^ b) (x / 2 ^ (b * suc (n + n)) % 2 ^ b)
-    ∙ sym (ap (λ (k : ℕ). flip b same k x) (add-suc (suc n) n ∙ ap suc (suc-add n n)) ∙ flip-step b same (suc (n + n)) x ∙ ap (λ (y : ℕ). y * 2 ^ b + x / 2 ^ (b * suc (n + n)) % 2 ^ b) (flip-step b same (n + n) x))
+    (ap (swaps b n) (high h (b + b) (mod-lt e (pow-pos (b + b)))) ∙ level b n x)
+    (ap₂ (λ (p q : ℕ). p * 2 ^ b + q) (low-half b h e ∙ ap (λ (y : ℕ). y % 2 ^ b) e-is) (high-half b h e ∙ ap (λ (y : ℕ). y % 2 ^ b) (ap (λ (y : ℕ). y / 2 ^ b) e-is ∙ next)))
+    ∙ two-fields b (flip b same (n + n) x) (x / 2 ^ (b * (n + n)) % 2 ^ b) (x / 2 ^ (b * m) % 2 ^ b)
+    ∙ sym (ap (λ (k : ℕ). flip b same k x) (add-suc (suc n) n ∙ ap suc (suc-add n n)) ∙ flip-step b same m x ∙ ap (λ (y : ℕ). y * 2 ^ b + x / 2 ^ (b * m) % 2 ^ b) (flip-step b same (n + n) x))
   where
+    h : ℕ
+    h = flip (b + b) same n x
+
+    m : ℕ
+    m = suc (n + n)
+
     e : ℕ
     e = x / 2 ^ ((b + b) * n)
 

@@ -2,17 +2,16 @@
 -- Assumes nothing.
 use mathlib.Core.Bool.{Bool, true, false, _||_}
 use mathlib.Core.List.{List, [], _∷_, _++_}
-use mathlib.Core.Path.{_≡_, refl, sym, ap, _∙_}
+use mathlib.Core.Path.{_≡_, refl, sym, ap, ap₂, _∙_}
 use Prim.Native.Nat.{ℕ, _≤_, _<_}
 use native.Mathlib.Omega.{arith}
-use lib.Dec.{ltb}
 use borrow.Author.Tests.{lt-ltb, le-ltb}
 use Rattle.codes.specs.Codes.{pick}
-use Rattle.codes.specs.Refusals.{Test, answer, first, badWord, noRoom, ifDone}
+use Rattle.codes.specs.Refusals.{Test, answer, first, noRoom, ifDone}
 use Rattle.codes.specs.declared.refusals.Outcome.{Outcome}
 use Rattle.codes.specs.declared.refusals.Outcome.the-variants.{Done, Refused}
 use Rattle.codes.specs.declared.refusals.Refusal.{Refusal}
-use Rattle.codes.specs.declared.refusals.Refusal.the-variants.{BadWord, NoRoom}
+use Rattle.codes.specs.declared.refusals.Refusal.the-variants.{NoRoom}
 use Rattle.codes.proofs.RefusalLaws.{andThen, first-append}
 
 -- an answer whose outcome is known
@@ -48,6 +47,14 @@ first-refused ts us r e = first-append ts us ∙ ap (λ (o : Outcome). andThen o
 pub first-done : (ts us : List Test) → first ts ≡ Done → first (ts ++ us) ≡ first us
 first-done ts us e = first-append ts us ∙ ap (λ (o : Outcome). andThen o (first us)) e
 
+-- a row of tests whose outcome is o, and one more
+pub first-then : (ts : List Test) (t : Test) (o r : Outcome) (b : Bool) → o ≡ first ts → b ≡ t .0 → r ≡ ifDone o (first ((b, t .1) ∷ [])) o → r ≡ first (ts ++ t ∷ [])
+first-then ts t o r b eo eb er = er ∙ ap₂ (λ (p : Outcome) (s : Bool). ifDone p (first ((s, t .1) ∷ [])) p) eo eb ∙ then (first ts) ∙ sym (first-append ts (t ∷ []))
+  where
+    then : (p : Outcome) → ifDone p (first (t ∷ [])) p ≡ andThen p (first (t ∷ []))
+    then Done = refl
+    then (Refused q) = refl
+
 -- where tests in a row all fail, the first ones do and the others do
 pub first-both : (ts us : List Test) → first (ts ++ us) ≡ Done → (first ts ≡ Done) × (first us ≡ Done)
 first-both ts us e = both (first ts) (first us) (sym (first-append ts us) ∙ e)
@@ -59,16 +66,6 @@ first-both ts us e = both (first ts) (first us) (sym (first-append ts us) ∙ e)
 pub or-true : (b : Bool) → (b || true) ≡ true
 or-true true = refl
 or-true false = refl
-
--- whether a word's length is in its range
-pub word-short : (least most len : ℕ) → len < least → Refused BadWord ≡ first (badWord least most len ∷ [])
-word-short least most len h = rw (lt-ltb len least h)
-
-pub word-long : (least most len : ℕ) → most < len → Refused BadWord ≡ first (badWord least most len ∷ [])
-word-long least most len h = rw (lt-ltb most len h, or-true (ltb len least))
-
-pub word-right : (least most len : ℕ) → least ≤ len → len ≤ most → Done ≡ first (badWord least most len ∷ [])
-word-right least most len h l = rw (le-ltb len least h, le-ltb most len l)
 
 -- whether an output buffer of n bytes has room
 pub room-short : (n needed : ℕ) → n < needed → Refused NoRoom ≡ first (noRoom n needed ∷ [])

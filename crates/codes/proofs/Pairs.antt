@@ -1,12 +1,10 @@
--- A number of two halves of W bits each: shifted down, and flipped. Assumes nothing.
-use mathlib.Core.Path.{_≡_, refl, sym, ap, ap₂, _∙_, subst}
-use Prim.Native.Nat.{ℕ, zero, suc, _+_, _-_, _*_, _/_, _%_, _^_, _≤_, _<_}
-use native.Mathlib.Nat.{mod-lt, add-mul, add-assoc, mul-assoc, mul-comm, mul-mod-left, mul-add-div-right, add-zero, add-sub-of-le, add-comm, zero-mul, zero-add}
+-- A number of two halves of W bits each, shifted down; and the halves of a number. Assumes nothing.
+use mathlib.Core.Path.{_≡_, sym, ap, ap₂, _∙_, subst}
+use Prim.Native.Nat.{ℕ, _+_, _-_, _*_, _/_, _%_, _^_, _≤_, _<_}
+use native.Mathlib.Nat.{add-mul, add-assoc, mul-assoc, mul-comm, mul-mod-left, mul-add-div-right, add-zero, add-sub-of-le, add-comm, zero-mul, zero-add}
 use lib.Pow.{pow-pos, pow-add, split, high, low, shr-shr, shl-shr, shr-lt, mod-pow-add}
 use lib.Bits.{bitOr, or-shifted-r}
 use Rattle.codes.specs.Answers.{halves}
-use Rattle.codes.specs.Words.{flip}
-use Rattle.codes.proofs.WordLaws.{flip-pair, flip-from}
 
 -- what a shift by t leaves of s + t bits
 shl-keeps : (a s t : ℕ) → a * 2 ^ t % 2 ^ (s + t) ≡ a % 2 ^ s * 2 ^ t
@@ -16,9 +14,15 @@ shr-sum : (lo hi s t : ℕ) → lo < 2 ^ (t + s) → hi / 2 ^ s * 2 ^ (s + t) + 
 shr-sum lo hi s t h =
     rw (shl-keeps hi s t, or-shifted-r (hi % 2 ^ s) t (lo / 2 ^ s) (shr-lt t s h), pow-add 2 s t)
     (sym (add-assoc (hi / 2 ^ s * (2 ^ s * 2 ^ t)) (hi % 2 ^ s * 2 ^ t) (lo / 2 ^ s))
-    ∙ ap (λ (n : ℕ). n + lo / 2 ^ s) (ap (λ (n : ℕ). n + hi % 2 ^ s * 2 ^ t) (sym (mul-assoc (hi / 2 ^ s) (2 ^ s) (2 ^ t))) ∙ sym (add-mul (hi / 2 ^ s * 2 ^ s) (hi % 2 ^ s) (2 ^ t)) ∙ ap (λ (n : ℕ). n * 2 ^ t) (split hi s))
+    ∙ ap (λ (n : ℕ). n + lo / 2 ^ s) whole
     ∙ sym (mul-add-div-right (pow-pos s) (hi * 2 ^ t) lo)
     ∙ ap (λ (n : ℕ). (n + lo) / 2 ^ s) (mul-assoc hi (2 ^ t) (2 ^ s) ∙ ap (λ (n : ℕ). hi * n) (mul-comm (2 ^ t) (2 ^ s))))
+  where
+    whole : hi / 2 ^ s * (2 ^ s * 2 ^ t) + hi % 2 ^ s * 2 ^ t ≡ hi * 2 ^ t
+    whole =
+        ap (λ (n : ℕ). n + hi % 2 ^ s * 2 ^ t) (sym (mul-assoc (hi / 2 ^ s) (2 ^ s) (2 ^ t)))
+        ∙ sym (add-mul (hi / 2 ^ s * 2 ^ s) (hi % 2 ^ s) (2 ^ t))
+        ∙ ap (λ (n : ℕ). n * 2 ^ t) (split hi s)
 
 -- a shift within a half of W bits
 pub shr-within : (W lo hi s : ℕ) → s ≤ W → lo < 2 ^ W → hi / 2 ^ s * 2 ^ W + bitOr (lo / 2 ^ s) (hi * 2 ^ (W - s) % 2 ^ W) ≡ (hi * 2 ^ W + lo) / 2 ^ s
@@ -38,16 +42,3 @@ halves-of v lo hi h e = (sym (ap (λ (n : ℕ). n % 2 ^ 64) (sym e) ∙ low hi 6
 
 pub halves-are : (v lo hi : ℕ) → lo < 2 ^ 64 → hi * 2 ^ 64 + lo ≡ v → (lo, hi) ≡ halves v
 halves-are v lo hi h e = ap₂ (λ (a b : ℕ). (a, b)) (halves-of v lo hi h e .0) (halves-of v lo hi h e .1)
-
--- k characters of two halves of n each, flipped: each half is flipped, the halves change places, and a shift leaves k
-pub flip-halves : (w : ℕ) (f : ℕ → ℕ) → ((c : ℕ) → c < 2 ^ w → f c < 2 ^ w) → (n k s lo hi flo fhi rlo rhi : ℕ) → w * n ≡ 64 → lo < 2 ^ 64 → rlo < 2 ^ 64
-    → k ≤ n + n → s ≡ w * (n + n - k) → flo ≡ flip w f n lo → fhi ≡ flip w f n hi → rhi * 2 ^ 64 + rlo ≡ (flo * 2 ^ 64 + fhi) / 2 ^ s
-    → (rlo, rhi) ≡ halves (flip w f k (hi * 2 ^ 64 + lo))
-flip-halves w f h n k s lo hi flo fhi rlo rhi e hl hr kn es el eh er =
-    halves-are (flip w f k (hi * 2 ^ 64 + lo)) rlo rhi hr
-    (er ∙ ap (λ (y : ℕ). y / 2 ^ s) (ap₂ (λ (p q : ℕ). p * 2 ^ 64 + q) el eh ∙ sym both) ∙ flip-from w f h (n + n) k s (hi * 2 ^ 64 + lo) kn es)
-  where
-    both : flip w f (n + n) (hi * 2 ^ 64 + lo) ≡ flip w f n lo * 2 ^ 64 + flip w f n hi
-    both =
-        subst (λ (b : ℕ). flip w f (n + n) (hi * 2 ^ b + lo) ≡ flip w f n lo * 2 ^ b + flip w f n hi) e
-        (flip-pair w f n lo hi (subst (λ (b : ℕ). lo < 2 ^ b) (sym e) hl))

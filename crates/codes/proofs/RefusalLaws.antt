@@ -7,8 +7,7 @@ use Prim.Native.Nat.{ℕ, _≤_, zero-le}
 use lib.Dec.{ltb}
 use lib.ListN.{getD}
 use borrow.Author.Tests.{le-ltb, ltb-false}
-use Rattle.codes.specs.Refusals.{Test, badWord, Answer, first, number, numberOf, answer, ifDone}
-use Rattle.codes.specs.declared.refusals.Refusal.{Refusal}
+use Rattle.codes.specs.Refusals.{Test, badWord, Answer, first, numberOf, answer}
 use Rattle.codes.specs.declared.refusals.Refusal.the-variants.{TooLong, BadStore, BadView, BadRange, BadWord, BadLetter, BadForm, BadStream, NoRoom}
 use Rattle.codes.specs.declared.refusals.Outcome.{Outcome}
 use Rattle.codes.specs.declared.refusals.Outcome.the-variants.{Done, Refused}
@@ -17,13 +16,14 @@ use Rattle.codes.specs.declared.refusals.Outcome.the-variants.{Done, Ref
 pub ltb-zero : (n : ℕ) → ltb n 0 ≡ false
 ltb-zero n = le-ltb n 0 zero-le
 
+-- where one test or another does not hold, neither does
+pub neither : (a b : Bool) → (a || b) ≡ false → (a ≡ false) × (b ≡ false)
+neither true b e = (e, absurd (true≢false e))
+neither false b e = (refl, e)
+
 -- a word's length is in its range where the test does not hold
 pub word-in : (least most k : ℕ) → badWord least most k .0 ≡ false → (least ≤ k) × (k ≤ most)
-word-in least most k e = (ltb-false k least (or-no (ltb k least) (ltb most k) e .0), ltb-false most k (or-no (ltb k least) (ltb most k) e .1))
-  where
-    or-no : (a b : Bool) → (a || b) ≡ false → (a ≡ false) × (b ≡ false)
-    or-no true b e = (e, absurd (true≢false e))
-    or-no false b e = (refl, e)
+word-in least most k e = let n = neither (ltb k least) (ltb most k) e in (ltb-false k least (n .0), ltb-false most k (n .1))
 
 -- the second outcome counts where the first is done
 abbrev pub andThen : Outcome → Outcome → Outcome

@@ -2,7 +2,7 @@
 -- Assumes nothing.
 use mathlib.Core.List.{List, [], _∷_, _++_}
 use mathlib.Core.Path.{_≡_, refl, sym, ap, ap₂, _∙_}
-use Prim.Native.Nat.{ℕ, zero, suc, _+_, _*_, _/_, _%_, _^_, _≤_, _<_, zero-le, suc-le-suc}
+use Prim.Native.Nat.{ℕ, zero, suc, _+_, _*_, _/_, _%_, _^_, _<_, zero-le, suc-le-suc}
 use native.Mathlib.Nat.{add-zero, zero-add, suc-add, zero-mul, mul-zero, div-one, le-of-suc-le-suc, not-suc-le-zero, zero-div, zero-mod}
 use lib.ListN.{length, getD}
 use lib.Pow.{pow-pos, low, high}
@@ -31,7 +31,11 @@ unfolding tab
 tab-append zero n f = rw zero-add (tab-ext n f (λ i. f (0 + i)) (λ i h. ap f (sym (zero-add i))))
 tab-append (suc m) n f =
     rw suc-add
-    (ap (λ (l : List ℕ). f 0 ∷ l) (tab-append m n (λ i. f (suc i)) ∙ ap (λ (l : List ℕ). tab m (λ i. f (suc i)) ++ l) (tab-ext n (λ i. f (suc (m + i))) (λ i. f (suc m + i)) (λ i h. ap f (sym (suc-add m i))))))
+    (ap (λ (l : List ℕ). f 0 ∷ l)
+    (tab-append m n g ∙ ap (λ (l : List ℕ). tab m g ++ l) (tab-ext n (λ i. g (m + i)) (λ i. f (suc m + i)) (λ i h. ap f (sym (suc-add m i))))))
+  where
+    g : ℕ → ℕ
+    g i = f (suc i)
 
 -- each element is below 2 ^ w
 pub Below-tab : (w n : ℕ) (f : ℕ → ℕ) → ((i : ℕ) → f i < 2 ^ w) → Below w (tab n f)

@@ -3,14 +3,14 @@
 use mathlib.Core.Path.{_≡_, sym, ap, ap₂, _∙_}
 use mathlib.Core.List.{List, [], _∷_, _++_, map, map-append, append-nil, append-assoc}
 use Prim.Native.Nat.{ℕ, suc, _+_, _-_, _*_, _/_, _%_, _^_, _≤_, _<_}
-use native.Mathlib.Nat.{mul-suc, lt-of-lt-of-le, le-of-eq, mul-le-mul-left}
+use native.Mathlib.Nat.{mul-suc, le-of-eq}
 use native.Mathlib.Numerals.{add-one}
 use native.Mathlib.Omega.{arith}
 use lib.Seq.{drop-cons, set-at, append-snoc, take-at, drop-at, take-all, drop-drop}
 use lib.ListN.{length, getD, take, drop, set, drop-of-length-le, length-drop, length-map}
-use lib.Pow.{pow-mono, shr-shr}
+use lib.Pow.{shr-shr}
 use Rattle.codes.specs.Words.{word, charsOf}
-use Rattle.codes.proofs.WordLaws.{word-lt, Below-map, charsOf-snoc, length-charsOf}
+use Rattle.codes.proofs.WordLaws.{word-fits, charsOf-snoc, length-charsOf}
 
 -- one turn of a loop that packs from the last letter down to the first, with room for n
 pub record Packed (w : ℕ) (f : ℕ → ℕ) (n : ℕ) (s : List ℕ) (i out : ℕ) : Type 0 where
@@ -20,8 +20,14 @@ pub record Packed (w : ℕ) (f : ℕ → ℕ) (n : ℕ) (s : List ℕ) (i out : 
 pub pack-turn : (w : ℕ) (f : ℕ → ℕ) → ((b : ℕ) → f b < 2 ^ w) → (n : ℕ) (s : List ℕ) (i out : ℕ) → 0 < i → i ≤ length s → length s ≤ n
     → out ≡ word w (map f (drop i s)) → Packed w f n s i out
 unfolding word
-pack-turn w f h n s i out p l r e = record { out-is = is; room = rw is (lt-of-lt-of-le (word-lt w (map f (drop (i - 1) s)) (Below-map w f h (drop (i - 1) s))) (pow-mono (mul-le-mul-left w (simp (length-map, length-drop) (omega arith))))) }
+pack-turn w f h n s i out p l r e = record { out-is = is; room = rw is (word-fits w f h n rest short) }
   where
+    rest : List ℕ
+    rest = drop (i - 1) s
+
+    short : length rest ≤ n
+    short = simp length-drop (omega arith)
+
     back : suc (i - 1) ≡ i
     back = omega arith
 
@@ -57,7 +63,7 @@ pub written-on : (n m : ℕ) (a b old l r : List ℕ) → length a ≡ n → l �
     → take n l ++ (r ++ drop (length l - n) (drop n l)) ≡ (a ++ b) ++ drop (n + m) old
 written-on n m a b old l r ea el er =
     ap₂ (λ (p q : List ℕ). p ++ q) (ap (take n) el ∙ take-at a (drop n old) n ea)
-    (ap₂ (λ (p q : List ℕ). p ++ q) (er ∙ ap (λ (p : List ℕ). b ++ drop m p) (take-all (length l - n) (drop n l) short ∙ rest) ∙ ap (λ (p : List ℕ). b ++ p) (drop-drop m n old)) (drop-of-length-le (drop n l) short) ∙ append-nil (b ++ drop (n + m) old))
+    (ap₂ (λ (p q : List ℕ). p ++ q) second (drop-of-length-le (drop n l) short) ∙ append-nil (b ++ drop (n + m) old))
     ∙ sym (append-assoc a b (drop (n + m) old))
   where
     short : length (drop n l) ≤ length l - n
@@ -65,3 +71,6 @@ written-on n m a b old l r ea el er =
 
     rest : drop n l ≡ drop n old
     rest = ap (drop n) el ∙ drop-at a (drop n old) n ea
+
+    second : r ≡ b ++ drop (n + m) old
+    second = er ∙ ap (λ (p : List ℕ). b ++ drop m p) (take-all (length l - n) (drop n l) short ∙ rest) ∙ ap (λ (p : List ℕ). b ++ p) (drop-drop m n old)

@@ -1,8 +1,10 @@
 -- The laws of a width: how many characters a byte holds, and how many bytes n characters take.
 -- Assumes nothing.
 use mathlib.Core.Path.{_≡_, refl, sym, ap, _∙_, subst}
-use Prim.Native.Nat.{ℕ, zero, suc, _+_, _-_, _*_, _/_, _%_, _^_, _≤_, _<_}
-use native.Mathlib.Nat.{le-trans, mul-le-mul, add-mul, mul-suc, mul-zero, zero-mul, suc-mul, add-assoc, one-mul, mod-lt, div-add-mod', div-mul-le-self, lt-div-mul-add, le-div-iff-mul-le, le-mul-of-pos-right, mul-le-mul-left, mul-le-mul-right, mul-add-div-right}
+use Prim.Native.Nat.{ℕ, _+_, _-_, _*_, _/_, _%_, _^_, _≤_, _<_}
+use native.Mathlib.Nat.{add-mul, mul-suc, mul-zero, zero-mul, suc-mul, mul-assoc, add-assoc, one-mul}
+use native.Mathlib.Nat.{le-trans, mul-le-mul, mul-le-mul-left, mul-le-mul-right, le-mul-of-pos-right}
+use native.Mathlib.Nat.{div-add-mod', div-mul-le-self, lt-div-mul-add, le-div-iff-mul-le, mul-add-div-right, mul-div-cancel-left}
 use native.Mathlib.Decide.{decLt}
 use native.Mathlib.Omega.{arith}
 use lib.Dec.{ltb, lit<, lit≤}
@@ -74,6 +76,12 @@ module _ {w : ℕ} (W : IsWidth w) where
   -- the characters of a buffer that is not too long
   pub chars-bound : (b : ℕ) → b ≤ 2 ^ 28 → b * per w ≤ 2 ^ 31
   chars-bound b h = mul-le-mul h per-le
+
+-- whole bytes hold whole characters
+pub whole : {w : ℕ} → IsWidth w → (m : ℕ) → w * (8 * m / w) ≡ 8 * m
+whole {w} W m =
+    let e : 8 * m ≡ w * (per w * m) = ap (λ (x : ℕ). x * m) (sym (W .whole)) ∙ mul-assoc w (per w) m in
+    ap (λ (x : ℕ). w * (x / w)) e ∙ ap (λ (x : ℕ). w * x) (mul-div-cancel-left (per w * m) (width-pos W)) ∙ sym e
 
 -- a product less 48 of its factor
 pub less-48 : (m p : ℕ) → 48 ≤ m → m * p ≡ (m - 48) * p + 48 * p

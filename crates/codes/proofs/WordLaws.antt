@@ -3,7 +3,8 @@
 use mathlib.Core.Path.{_≡_, refl, sym, ap, ap₂, _∙_, subst}
 use mathlib.Core.List.{List, [], _∷_, _++_, map, reverse, reverse-append, reverse-cons, map-append}
 use Prim.Native.Nat.{ℕ, zero, suc, _+_, _-_, _*_, _/_, _%_, _^_, _≤_, _<_}
-use native.Mathlib.Nat.{mul-zero, mul-suc, mul-assoc, add-mul, add-assoc, add-comm, add-zero, zero-add, suc-add, zero-mul, mod-one, mod-lt, lt-of-lt-of-le, div-one, mul-one, mul-le-mul-left, add-sub-of-le}
+use native.Mathlib.Nat.{mul-zero, mul-one, mul-suc, mul-assoc, add-mul, add-assoc, add-comm, add-zero, zero-add, suc-add, zero-mul, add-sub-of-le}
+use native.Mathlib.Nat.{mod-one, mod-lt, div-one, lt-of-lt-of-le, mul-le-mul-left}
 use native.Mathlib.Numerals.{add-one}
 use lib.Seq.{length-take-le, take-at}
 use lib.ListN.{length, take, drop, take-append-drop, length-reverse, length-map}

@@ -1,3 +1,2 @@
 pub mod ViewLaws
 pub mod LoadLaws
-pub mod FlipLaws

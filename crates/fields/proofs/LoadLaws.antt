@@ -1,21 +1,22 @@
 -- Where a view's bits and words stand in its bytes, and what its word's length may be.
 -- Assumes nothing.
-use mathlib.Core.Bool.{Bool, true, false, _||_}
-use mathlib.Core.List.{[], _∷_, _++_}
-use mathlib.Core.Path.{_≡_, refl, sym, ap, ap₂, _∙_, subst, subst₂}
-use Prim.Native.Nat.{ℕ, _+_, _-_, _*_, _/_, _^_, _≤_, _<_}
-use native.Mathlib.Nat.{mul-pos, mul-add, mul-left-comm, mul-comm, mul-assoc, mul-le-mul-left, le-trans, mul-div-le, mul-div-cancel-left}
+use mathlib.Core.List.{List, [], _∷_}
+use mathlib.Core.Path.{_≡_, sym, ap, ap₂, _∙_, subst₂}
+use Prim.Native.Nat.{ℕ, _+_, _*_, _/_, _%_, _^_, _≤_, _<_, zero-le}
+use native.Mathlib.Nat.{add-zero, mul-add, mul-left-comm, mul-comm, mul-le-mul-left, le-trans, mul-div-le}
 use native.Mathlib.Omega.{arith}
-use lib.Dec.{ltb}
-use borrow.Author.Tests.{ltb-false}
-use Rattle.codes.specs.Codes.{per, IsWidth}
+use lib.ListN.{length, getD}
+use Rattle.codes.specs.Codes.{per, IsWidth, chars}
 use Rattle.codes.specs.Refusals.{first, badWord}
 use Rattle.codes.specs.declared.refusals.Outcome.the-variants.{Done}
-use Rattle.codes.specs.declared.refusals.Refusal.the-variants.{BadWord}
-use Rattle.codes.proofs.WidthLaws.{width-pos, below-or}
-use Rattle.fields.specs.Fields.{viewTests}
+use Rattle.codes.specs.Words.{word}
+use Rattle.codes.proofs.FieldLaws.{word-chars}
+use Rattle.codes.proofs.OutcomeLaws.{first-both, passed}
+use Rattle.codes.proofs.RefusalLaws.{word-in}
+use Rattle.codes.proofs.TabLaws.{Below-of}
+use Rattle.codes.proofs.WidthLaws.{below-or, whole}
+use Rattle.fields.specs.Fields.{viewTests, wordTests}
 use Rattle.fields.proofs.ViewLaws.{view-accepted, room-sum}
-use Rattle.codes.proofs.OutcomeLaws.{first-both}
 
 -- a view's bits
 pub record Bits (w n o len : ℕ) : Type 0 where
@@ -26,7 +27,8 @@ pub record Bits (w n o len : ℕ) : Type 0 where
 pub view-bits : {w : ℕ} → IsWidth w → (n o len : ℕ) → first (viewTests w n o len) ≡ Done → Bits w n o len
 view-bits {w} W n o len e =
     let h = view-accepted w n o len e in
-    let s : w * (o + len + 48 * per w) ≡ w * o + w * len + 384 = mul-add w (o + len) (48 * per w) ∙ ap₂ (λ (p q : ℕ). p + q) (mul-add w o len) (mul-left-comm w 48 (per w) ∙ ap (λ (x : ℕ). 48 * x) (W .whole)) in
+    let behind : w * (48 * per w) ≡ 384 = mul-left-comm w 48 (per w) ∙ ap (λ (x : ℕ). 48 * x) (W .whole) in
+    let s : w * (o + len + 48 * per w) ≡ w * o + w * len + 384 = mul-add w (o + len) (48 * per w) ∙ ap₂ (λ (p q : ℕ). p + q) (mul-add w o len) behind in
     let t : w * (n * per w) ≡ 8 * n = mul-left-comm w n (per w) ∙ ap (λ (x : ℕ). n * x) (W .whole) ∙ mul-comm n 8 in
     record { few = h .small; room = subst₂ (λ (p q : ℕ). p ≤ q) s t (mul-le-mul-left w (h .fits)); short = room-sum W h }
 
@@ -37,44 +39,28 @@ view-word w n o len i p h l e =
     let m = mul-le-mul-left w l in
     (omega (arith, h .room), omega (arith, h .room, h .few))
 
--- whole bytes hold whole characters
-pub whole : {w : ℕ} → IsWidth w → (m : ℕ) → w * (8 * m / w) ≡ 8 * m
-whole {w} W m =
-    let e : 8 * m ≡ w * (per w * m) = ap (λ (x : ℕ). x * m) (sym (W .whole)) ∙ mul-assoc w (per w) m in
-    ap (λ (x : ℕ). w * (x / w)) e ∙ ap (λ (x : ℕ). w * x) (mul-div-cancel-left (per w * m) (width-pos W)) ∙ sym e
+-- an accepted view's bits begin within its bytes, and are its word; the code's numbers are o′ and len′
+module _ {w : ℕ} (W : IsWidth w) (bs : List ℕ) (o len : ℕ) (e : first (viewTests w (length bs) o len) ≡ Done) (o′ : ℕ) (eo : o′ ≡ o) where
+  pub view-start : (w * o′ / 8 + 17 ≤ length bs) × (w * o′ < 2 ^ 31)
+  view-start =
+      let p = view-word w (length bs) o len 0 (w * o′) (view-bits W (length bs) o len e) zero-le (ap (λ (x : ℕ). w * x) (eo ∙ sym (add-zero o))) in
+      (omega (arith, p .0), p .1)
 
--- and 56 bits hold one or more
+  pub view-field : ((i : ℕ) → getD bs i 0 < 2 ^ 8) → (len′ : ℕ) → len′ ≡ len → word 8 bs / 2 ^ (w * o′) % 2 ^ (w * len′) ≡ word w (chars w bs o len)
+  view-field b len′ el = ap₂ (λ (p q : ℕ). word 8 bs / 2 ^ (w * p) % 2 ^ (w * q)) eo el ∙ sym (word-chars W bs (Below-of 8 bs b) o len)
+
+-- 56 bits hold one character or more
 pub turn-pos : {w : ℕ} → IsWidth w → 0 < 56 / w
 turn-pos {w} W = below-or 0 (56 / w) (λ h. h) (λ h. let e : 56 / w ≡ 0 = omega arith in let z : 56 ≡ w * 0 = sym (whole W 7) ∙ ap (λ (x : ℕ). w * x) e in absurd (omega arith))
 
 -- a view whose word is not refused
 pub record Wordy (w n o len least bits : ℕ) : Type 0 where
-  pub view : Bits w n o len
+  pub view : first (viewTests w n o len) ≡ Done
   pub low : least ≤ len
-  pub high : len ≤ bits / w
   pub fits : w * len ≤ bits
 
-neither : (a b : Bool) → first ((a || b, BadWord) ∷ []) ≡ Done → (a ≡ false) × (b ≡ false)
-neither true b e = let z : _≡_ {A = ℕ} 0 1 = cc in absurd (omega arith)
-neither false true e = let z : _≡_ {A = ℕ} 0 1 = cc in absurd (omega arith)
-neither false false e = (refl, refl)
-
-pub word-room : {w : ℕ} → IsWidth w → (n o len least bits : ℕ) → first (viewTests w n o len ++ badWord least (bits / w) len ∷ []) ≡ Done → Wordy w n o len least bits
-word-room {w} W n o len least bits e =
+pub word-open : (w n o len least bits : ℕ) → first (wordTests w n o len least bits) ≡ Done → Wordy w n o len least bits
+word-open w n o len least bits e =
     let b = first-both (viewTests w n o len) (badWord least (bits / w) len ∷ []) e in
-    let t = neither (ltb len least) (ltb (bits / w) len) (b .1) in
-    let h : len ≤ bits / w = ltb-false (bits / w) len (t .1) in
-    record { view = view-bits W n o len (b .0); low = ltb-false len least (t .0); high = h; fits = le-trans (mul-le-mul-left w h) (mul-div-le bits w) }
-
--- the bits of a view with a word lie within its bytes
-pub word-place : (w n o len o′ least bits : ℕ) → Wordy w n o len least bits → o′ ≡ o → (w * o′ / 8 + 17 ≤ n) × (w * o′ < 2 ^ 31)
-word-place w n o len o′ least bits h e =
-    let q = ap (λ (x : ℕ). w * x) e in
-    (omega (arith, h .view .room), omega (arith, h .view .room, h .view .few))
-
-pub word-fits : (w n o len len′ least bits : ℕ) → Wordy w n o len least bits → len′ ≡ len → w * len′ ≤ bits
-word-fits w n o len len′ least bits h e = subst (λ (x : ℕ). w * x ≤ bits) (sym e) (h .fits)
-
--- a word of one character or more has bits
-pub word-some : {w : ℕ} → IsWidth w → (n o len len′ bits : ℕ) → Wordy w n o len 1 bits → len′ ≡ len → 0 < w * len′
-word-some {w} W n o len len′ bits h e = mul-pos (width-pos W) (subst (λ (x : ℕ). 0 < x) (sym e) (h .low))
+    let i = word-in least (bits / w) len (passed _ _ _ (b .1) .0) in
+    record { view = b .0; low = i .0; fits = le-trans (mul-le-mul-left w (i .1)) (mul-div-le bits w) }

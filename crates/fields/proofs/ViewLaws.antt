@@ -1,24 +1,21 @@
 -- The laws of one view: what an accepted view has room for, that normalising keeps its characters, the answers of `got`, and what an accepted slice has.
 -- Assumes nothing.
-use mathlib.Core.List.{List, [], _∷_}
-use mathlib.Core.Path.{_≡_, sym, ap, ap₂, _∙_, subst}
+use mathlib.Core.List.{List, [], _∷_, _++_}
+use mathlib.Core.Path.{_≡_, sym, ap, _∙_, subst}
 use Prim.Native.Nat.{ℕ, _+_, _-_, _*_, _/_, _%_, _^_, _≤_, _<_}
 use native.Mathlib.Nat.{le-of-mul-le-mul-right, div-lt-iff-lt-mul, le-div-iff-mul-le, div-mul-le-self, add-assoc, div-add-mod', mul-add-div-right, mul-add-mod-self-right}
 use native.Mathlib.Omega.{arith}
 use lib.Dec.{ltb, leb}
 use lib.ListN.{length, getD, drop}
 use lib.Seq.{getD-take, getD-drop}
-use borrow.Author.Tests.{ltb-false, le-leb, lt-leb}
+use borrow.Author.Tests.{ltb-false, leb-false}
 use Rattle.codes.specs.Codes.{per, up, IsWidth, charAt, chars}
-use Rattle.codes.specs.Refusals.{first, answer, badIndex, badEnd, badStart}
-use Rattle.codes.specs.declared.refusals.Refusal.{Refusal}
-use Rattle.codes.specs.declared.refusals.Refusal.the-variants.{BadRange}
-use Rattle.codes.specs.declared.refusals.Outcome.{Outcome}
-use Rattle.codes.specs.declared.refusals.Outcome.the-variants.{Done, Refused}
-use Rattle.codes.proofs.CharLaws.{getD-chars, chars-ext}
-use Rattle.codes.proofs.OutcomeLaws.{passed, first-holds, first-next, first-refused, first-done, first-both}
+use Rattle.codes.specs.Refusals.{first, badIndex, badEnd, badStart}
+use Rattle.codes.specs.declared.refusals.Outcome.the-variants.{Done}
+use Rattle.codes.proofs.CharLaws.{chars-ext}
+use Rattle.codes.proofs.OutcomeLaws.{passed, first-both}
 use Rattle.codes.proofs.WidthLaws.{per-pos, up-hi, up-mono, up-whole, less-48, chars-bound}
-use Rattle.fields.specs.Fields.{viewTests, sliceTests, got, normalPart}
+use Rattle.fields.specs.Fields.{viewTests, sliceTests, normalPart}
 
 -- an accepted view of n bytes: they are not too many, and reach 48 beyond the characters
 pub record Room (w n o len : ℕ) : Type 0 where
@@ -78,20 +75,15 @@ module _ {w : ℕ} (W : IsWidth w) (bs : List ℕ) (o len : ℕ) (room : Room w 
   pub normal-chars : chars w (normalPart w bs o len) (o % per w) len ≡ chars w bs o len
   normal-chars = chars-ext w (normalPart w bs o len) bs (o % per w) o len normal-char
 
--- the answers of `got`, by its outcome
-module _ (w : ℕ) (bs : List ℕ) (o len i : ℕ) where
-  pub got-refused : (r : Refusal) → first (viewTests w (length bs) o len) ≡ Refused r → answer (Refused r) 0 0 ≡ got w bs o len i
-  unfolding got
-  got-refused r e = sym (ap (λ (p : Outcome). answer p (getD (chars w bs o len) i 0) 0) (first-refused (viewTests w (length bs) o len) (badIndex len i ∷ []) r e))
+-- an index that is accepted
+pub record Within (w n o len i : ℕ) : Type 0 where
+  pub room : Room w n o len
+  pub below : i < len
 
-  pub got-beyond : first (viewTests w (length bs) o len) ≡ Done → len ≤ i → answer (Refused BadRange) 0 0 ≡ got w bs o len i
-  unfolding got
-  got-beyond e h = sym (ap (λ (p : Outcome). answer p (getD (chars w bs o len) i 0) 0) (first-done (viewTests w (length bs) o len) (badIndex len i ∷ []) e ∙ first-holds (leb len i) BadRange [] (le-leb len i h)))
-
-  pub got-within : first (viewTests w (length bs) o len) ≡ Done → i < len → answer Done (charAt w bs (o + i)) 0 ≡ got w bs o len i
-  unfolding got
-  got-within e h =
-      sym (ap₂ (λ (p : Outcome) (x : ℕ). answer p x 0) (first-done (viewTests w (length bs) o len) (badIndex len i ∷ []) e ∙ first-next (leb len i) BadRange [] (lt-leb len i h)) (getD-chars w bs o len i h))
+pub index-within : (w n o len i : ℕ) → first (viewTests w n o len ++ badIndex len i ∷ []) ≡ Done → Within w n o len i
+index-within w n o len i e =
+    let b = first-both (viewTests w n o len) (badIndex len i ∷ []) e in
+    record { room = view-accepted w n o len (b .0); below = leb-false len i (passed (leb len i) _ _ (b .1) .0) }
 
 -- a slice that is accepted
 pub record Cut (w n o len start end : ℕ) : Type 0 where

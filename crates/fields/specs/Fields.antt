@@ -16,6 +16,10 @@ viewTests w n o len = tooLong n ∷ badView w n o len ∷ []
 abbrev pub sliceTests : ℕ → ℕ → ℕ → ℕ → ℕ → ℕ → List Test
 sliceTests w n o len start end = viewTests w n o len ++ badEnd len end ∷ badStart start end ∷ []
 
+-- and of its word: from `least` characters to what so many bits hold
+abbrev pub wordTests : ℕ → ℕ → ℕ → ℕ → ℕ → ℕ → List Test
+wordTests w n o len least bits = viewTests w n o len ++ badWord least (bits / w) len ∷ []
+
 -- the character at an index
 unfoldable pub got : ℕ → List ℕ → ℕ → ℕ → ℕ → Answer ℕ
 got w bs o len i = answer (first (viewTests w (length bs) o len ++ badIndex len i ∷ [])) (getD (chars w bs o len) i 0) 0
@@ -30,10 +34,10 @@ normalPart w bs o len = part (o / per w) (up w (o + len) + 48) bs
 
 -- a view's word takes lengths up to 64 / w; in two halves, up to 128 / w
 unfoldable pub asU64 : ℕ → List ℕ → ℕ → ℕ → Answer ℕ
-asU64 w bs o len = answer (first (viewTests w (length bs) o len ++ badWord 0 (64 / w) len ∷ [])) (word w (chars w bs o len)) 0
+asU64 w bs o len = answer (first (wordTests w (length bs) o len 0 64)) (word w (chars w bs o len)) 0
 
 unfoldable pub asU128 : ℕ → List ℕ → ℕ → ℕ → Answer (ℕ × ℕ)
-asU128 w bs o len = answer (first (viewTests w (length bs) o len ++ badWord 0 (128 / w) len ∷ [])) (halves (word w (chars w bs o len))) (0, 0)
+asU128 w bs o len = answer (first (wordTests w (length bs) o len 0 128)) (halves (word w (chars w bs o len))) (0, 0)
 
 -- characters in reverse, bases complemented
 abbrev pub flipped : ℕ → List ℕ → List ℕ
@@ -41,8 +45,7 @@ flipped w cs = reverse (map (complement w) cs)
 
 -- its reversed word needs length 1 or more
 unfoldable pub flippedAsU64 : ℕ → List ℕ → ℕ → ℕ → Answer ℕ
-flippedAsU64 w bs o len = answer (first (viewTests w (length bs) o len ++ badWord 1 (64 / w) len ∷ [])) (word w (flipped w (chars w bs o len))) 0
+flippedAsU64 w bs o len = answer (first (wordTests w (length bs) o len 1 64)) (word w (flipped w (chars w bs o len))) 0
 
 unfoldable pub flippedAsU128 : ℕ → List ℕ → ℕ → ℕ → Answer (ℕ × ℕ)
-flippedAsU128 w bs o len =
-    answer (first (viewTests w (length bs) o len ++ badWord 1 (128 / w) len ∷ [])) (halves (word w (flipped w (chars w bs o len)))) (0, 0)
+flippedAsU128 w bs o len = answer (first (wordTests w (length bs) o len 1 128)) (halves (word w (flipped w (chars w bs o len)))) (0, 0)

@@ -12,9 +12,8 @@ use Rattle.codes.specs.Made.{Made}
 use Rattle.codes.specs.Words.{word}
 use Rattle.codes.proofs.FieldLaws.{field-of}
 use Rattle.codes.proofs.MadeLaws.{made-join, made-as, made-to}
-use Rattle.codes.proofs.WidthLaws.{below-or, width-pos}
+use Rattle.codes.proofs.WidthLaws.{below-or, width-pos, whole}
 use Rattle.codes.proofs.WordLaws.{Below}
-use Rattle.fields.proofs.LoadLaws.{whole}
 use Rattle.lanes.specs.Lanes.{laneEntry}
 use Rattle.lanes.specs.Turns.{Holds, turned}
 use Rattle.lanes.proofs.LaneLaws.{char-past, char-within, laneChar-early, laneChar-late}

@@ -15,10 +15,10 @@ use Rattle.codes.specs.Codes.{IsWidth, charAt, chars}
 use Rattle.codes.specs.Words.{word}
 use Rattle.codes.proofs.CharLaws.{length-chars, getD-chars}
 use Rattle.codes.proofs.FieldLaws.{field-of, mod-low, charAt-is}
-use Rattle.codes.proofs.WidthLaws.{below-or, width-pos}
+use Rattle.codes.proofs.WidthLaws.{below-or, width-pos, whole}
 use Rattle.codes.proofs.WordLaws.{Below}
 use Rattle.order.specs.Order.{common}
-use Rattle.fields.proofs.LoadLaws.{Bits, view-word, whole}
+use Rattle.fields.proofs.LoadLaws.{Bits, view-word}
 use Rattle.order.proofs.OrderLaws.{common-is}
 
 -- below the lowest set bit all is 0, and it is set

@@ -15,7 +15,7 @@ use Rattle.codes.specs.declared.refusals.Outcome.{Outcome}
 use Rattle.codes.specs.declared.refusals.Outcome.the-variants.{Done, Refused}
 use Rattle.codes.specs.declared.refusals.Refusal.{Refusal}
 use Rattle.codes.proofs.CharLaws.{length-chars, chars-ext, chars-fit, length-pack, unpacked}
-use Rattle.codes.proofs.CodeLaws.{complement-lt}
+use Rattle.codes.proofs.CodeLaws.{complement-fits}
 use Rattle.codes.proofs.RefusalLaws.{says-once}
 use Rattle.codes.proofs.WidthLaws.{width-2, per-pos}
 use Rattle.codes.proofs.WordLaws.{Below, Below-reverse, Below-through}
@@ -43,7 +43,7 @@ module _ (bs other : List ℕ) (n : ℕ) (h : n ≤ 16384) (lb : length bs ≡ 4
   long = length-reverse (map (complement 2) cs) ∙ length-map cs (complement 2) ∙ length-chars 2 bs 0 n
 
   fits : Below 2 (flipped 2 cs)
-  fits = Below-reverse 2 (map (complement 2) cs) (Below-through 2 (complement 2) complement-lt cs (chars-fit 2 bs 0 n))
+  fits = Below-reverse 2 (map (complement 2) cs) (Below-through 2 (complement 2) (complement-fits 2) cs (chars-fit 2 bs 0 n))
 
   flip-done : flipOutcome 2 bs 0 n other ≡ Done
   unfolding flipOutcome

@@ -1,7 +1,7 @@
 -- A view reversed word by word: the next word of output, the bytes so far, and the whole with its zeros.
 -- Assumes nothing.
 use mathlib.Core.List.{List, _++_, map}
-use mathlib.Core.Path.{_≡_, refl, sym, ap, ap₂, _∙_, subst, subst₂}
+use mathlib.Core.Path.{_≡_, sym, ap, ap₂, _∙_, subst, subst₂}
 use Prim.Native.Nat.{ℕ, _+_, _-_, _*_, _/_, _%_, _^_, _≤_, _<_}
 use native.Mathlib.Nat.{mul-add, mul-sub, mul-assoc, mul-div-cancel-left, eq-of-mul-eq-mul-left, le-of-mul-le-mul-left, le-of-eq, sub-add-cancel, mod-eq-of-lt, add-sub-of-le}
 use native.Mathlib.Omega.{arith}
@@ -12,20 +12,20 @@ use Rattle.codes.specs.Codes.{IsWidth, per, up, complement, chars}
 use Rattle.codes.specs.Made.{Made}
 use Rattle.codes.specs.Words.{word, charsOf, flip, packed}
 use Rattle.codes.proofs.CharLaws.{length-chars, chars-fit}
-use Rattle.codes.proofs.FieldLaws.{mod-low}
+use Rattle.codes.proofs.CodeLaws.{complement-fits}
+use Rattle.codes.proofs.FieldLaws.{mod-low, flip-field}
+use Rattle.codes.proofs.FlipLaws.{flip-low}
 use Rattle.codes.proofs.MadeLaws.{made-zeros}
 use Rattle.codes.proofs.PackedLaws.{packed-is}
-use Rattle.codes.proofs.WidthLaws.{width-pos}
-use Rattle.codes.proofs.WordLaws.{Below, flip-add, flip-lt, flip-short, flip-fits, flip-mod, flip-from, charsOf-add, charsOf-mod, length-charsOf, charsOf-take, Below-reverse, Below-through}
+use Rattle.codes.proofs.WidthLaws.{width-pos, whole}
+use Rattle.codes.proofs.WordLaws.{Below, flip-add, flip-lt, flip-short, flip-fits, flip-mod, charsOf-add, charsOf-mod, length-charsOf, charsOf-take, Below-reverse, Below-through}
 use Rattle.fields.specs.Fields.{flipped}
 use Rattle.writes.specs.Writes.{flippedOver}
-use Rattle.fields.proofs.LoadLaws.{whole}
 use Rattle.writes.proofs.WriteLaws.{sets-at}
-use Rattle.fields.proofs.FlipLaws.{complement-fits, shift-is, flip-field}
 
 -- only a word's low characters count in its flip
-flip-low : (w : ℕ) (f : ℕ → ℕ) (k n x : ℕ) → w * k ≤ n → flip w f k (x % 2 ^ n) ≡ flip w f k x
-flip-low w f k n x l = sym (flip-mod w f k (x % 2 ^ n)) ∙ ap (flip w f k) (mod-low x (w * k) n l) ∙ flip-mod w f k x
+flip-cut : (w : ℕ) (f : ℕ → ℕ) (k n x : ℕ) → w * k ≤ n → flip w f k (x % 2 ^ n) ≡ flip w f k x
+flip-cut w f k n x l = sym (flip-mod w f k (x % 2 ^ n)) ∙ ap (flip w f k) (mod-low x (w * k) n l) ∙ flip-mod w f k x
 
 -- what is left of whole characters after whole bytes
 pub rest-whole : {w : ℕ} → IsWidth w → (bits at : ℕ) → w * (bits / w) ≡ bits → 8 * at ≤ bits → (bits - 8 * at) / w + per w * at ≡ bits / w
@@ -46,11 +46,14 @@ module _ {w : ℕ} (W : IsWidth w) (s p left x r : ℕ) (e : w * (left / w) ≡ 
   pub flip-last : left ≤ 64 → x ≡ s / 2 ^ p % 2 ^ 64 → r / 2 ^ (64 - left) ≡ flip w (complement w) (left / w) (s / 2 ^ p) % 2 ^ 64
   flip-last l ex =
       ap (λ (y : ℕ). y / 2 ^ (64 - left)) er
-      ∙ flip-from w (complement w) (complement-fits w) (64 / w) (left / w) (64 - left) x k (shift-is W 64 8 (left / w) left refl (sym e))
+      ∙ subst (λ (n : ℕ). flip w (complement w) (64 / w) x / 2 ^ (64 - n) ≡ flip w (complement w) (left / w) x) e (flip-low W 8 (left / w) x fits)
       ∙ ap (flip w (complement w) (left / w)) ex
-      ∙ flip-low w (complement w) (left / w) 64 (s / 2 ^ p) (subst (λ (n : ℕ). n ≤ 64) (sym e) l)
+      ∙ flip-cut w (complement w) (left / w) 64 (s / 2 ^ p) fits
       ∙ sym (mod-eq-of-lt (subst (λ (n : ℕ). flip w (complement w) (left / w) (s / 2 ^ p) < 2 ^ n) (whole W 8) (flip-fits w (complement w) (complement-fits w) (left / w) (64 / w) (s / 2 ^ p) k)))
     where
+      fits : w * (left / w) ≤ 64
+      fits = subst (λ (n : ℕ). n ≤ 64) (sym e) l
+
       k : left / w ≤ 64 / w
       k = le-of-mul-le-mul-left (subst₂ (λ (a b : ℕ). a ≤ b) (sym e) (sym (whole W 8)) l) (width-pos W)
 
@@ -59,7 +62,7 @@ module _ {w : ℕ} (W : IsWidth w) (s p left x r : ℕ) (e : w * (left / w) ≡ 
   flip-step-word l ex =
       er
       ∙ ap (flip w (complement w) (64 / w)) (ex ∙ ap (λ (y : ℕ). y % 2 ^ 64) (sym (shr-shr s p (left - 64)) ∙ ap (λ (n : ℕ). v / 2 ^ n) (sym wj)))
-      ∙ flip-low w (complement w) (64 / w) 64 (v / 2 ^ (w * j)) (le-of-eq (whole W 8))
+      ∙ flip-cut w (complement w) (64 / w) 64 (v / 2 ^ (w * j)) (le-of-eq (whole W 8))
       ∙ sym (ap (λ (n : ℕ). flip w (complement w) n v % 2 ^ 64) (sym jk)
       ∙ ap (λ (y : ℕ). y % 2 ^ 64) (flip-add w (complement w) j (64 / w) v)
       ∙ subst (λ (n : ℕ). (hi * 2 ^ (w * (64 / w)) + lo) % 2 ^ n ≡ lo) (whole W 8)
@@ -128,7 +131,7 @@ flipped-written {w} W s b o len used m old mid new eu lo hi room em z =
     front =
         ap (take used) em ∙ take-append-le used (charsOf 8 m t) (drop m old) (subst (λ (n : ℕ). used ≤ n) (sym lm) lo)
         ∙ charsOf-take 8 used m t lo
-        ∙ ap₂ (charsOf 8) (eu ∙ ap (up w) (sym long)) (sym (flip-mod w (complement w) len (word 8 s / 2 ^ (w * o))) ∙ flip-field W s b o len)
+        ∙ ap₂ (charsOf 8) (eu ∙ ap (up w) (sym long)) (flip-field W s b (complement w) o len)
         ∙ sym (packed-is W cs (Below-reverse w (map (complement w) (chars w s o len)) (Below-through w (complement w) (complement-fits w) (chars w s o len) (chars-fit w s o len))))
 
     back : drop (used + 48) mid ≡ drop (up w len + 48) old

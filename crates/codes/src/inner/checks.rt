@@ -1,15 +1,33 @@
 // The tests of the refusal table that more than one call makes.
 use crate::inner::counts::bytes_for;
 use crate::inner::counts::chars_in;
+use crate::refusals::Outcome;
+use crate::refusals::Refusal;
 use crate::units::Bytes;
 use crate::units::Chars;
+ghost use mathlib.Core.List.{[], _∷_};
 ghost use mathlib.Core.Path.{_≡_};
 ghost use Prim.Native.Nat.{_^_, _≤_};
 ghost use Rattle.codes.specs.Codes.{IsWidth};
-ghost use Rattle.codes.specs.Refusals.{tooLong, badStore, badView, badWord};
+ghost use Rattle.codes.specs.Refusals.{first, ifDone, tooLong, badStore, badView, badWord};
 
 // The most bytes of a view, a store's buffer or a stored form to be read.
 const MOST: usize = 0x1000_0000;
+
+// The next test of a row: it counts where none before it holds.
+pub fn refuse_if(outcome: Outcome, holds: bool, refusal: Refusal) -> Outcome
+    ensures { λ r. ⌜ r ≡ ifDone outcome (first ((holds, refusal) ∷ [])) outcome ⌝ }
+{
+    match outcome {
+        Outcome::Refused(earlier) => Outcome::Refused(earlier),
+        Outcome::Done => {
+            if holds {
+                return Outcome::Refused(refusal);
+            }
+            Outcome::Done
+        }
+    }
+}
 
 // Whether n bytes are too many.
 pub fn too_long(n: usize) -> bool

@@ -1,16 +1,11 @@
 // Letters to words and back, within one machine word and across two.
+use crate::inner::bits::wide;
 ghost use mathlib.Core.List.{_++_, map};
 ghost use mathlib.Core.Path.{_≡_};
-ghost use Prim.Native.Nat.{_+_, _*_, _^_, _≤_};
+ghost use Prim.Native.Nat.{_+_, _*_, _%_, _^_, _≤_};
 ghost use lib.ListN.{length, drop};
 ghost use Rattle.codes.specs.Codes.{lossy, letter};
 ghost use Rattle.codes.specs.Words.{word, charsOf};
-
-fn wide(x: u8) -> u64
-    ensures { λ r. ⌜ r ≡ x ⌝ }
-{
-    x as u64
-}
 
 // The word of at most 32 letters.
 pub fn pack(letters: &[u8]) -> u64
@@ -28,6 +23,13 @@ pub fn pack(letters: &[u8]) -> u64
 
 const LETTERS: [u8; 4] = [65, 67, 84, 71];
 
+// The capital letter of the lowest base of a byte.
+pub fn low_letter(x: u8) -> u8
+    ensures { λ r. ⌜ r ≡ letter (x % 4) ⌝ }
+{
+    LETTERS[(x % 4) as usize]
+}
+
 // Writes the k low bases of x as letters.
 pub fn unpack(x: u64, k: usize, out: &mut [u8])
     requires { ⌜ (k ≤ 32) × (k ≤ length (now out)) ⌝ }
@@ -36,8 +38,8 @@ pub fn unpack(x: u64, k: usize, out: &mut [u8])
     let mut rest = x;
     let mut i: usize = 0;
     while i < k {
-        let c = (rest % 4) as usize;
-        out[i] = LETTERS[c];
+        let c = (rest % 4) as u8;
+        out[i] = low_letter(c);
         rest = rest / 4;
         i += 1;
     }

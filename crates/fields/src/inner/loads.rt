@@ -2,16 +2,11 @@
 use codes::inner::bits::Pair;
 use codes::inner::bits::low_bits;
 use codes::inner::bits::shr_pair;
+use codes::inner::bits::wide;
 ghost use mathlib.Core.Path.{_≡_};
 ghost use Prim.Native.Nat.{_+_, _*_, _/_, _%_, _^_, _≤_, _<_};
 ghost use lib.ListN.{length};
 ghost use Rattle.codes.specs.Words.{word};
-
-fn wide(x: u8) -> u64
-    ensures { λ r. ⌜ r ≡ x ⌝ }
-{
-    x as u64
-}
 
 // The byte at `at`.
 fn load8(bytes: &[u8], at: usize) -> u64

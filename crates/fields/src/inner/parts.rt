@@ -1,5 +1,6 @@
 // One view: whether it is refused, its characters one at a time, and the numbers and the bytes of the parts that are handed back.
 use codes::inner::checks::bad_view;
+use codes::inner::checks::refuse_if;
 use codes::inner::checks::too_long;
 use codes::inner::counts::byte_of;
 use codes::inner::counts::bytes_for;
@@ -47,15 +48,11 @@ pub fn get_at(w: usize, bytes: &[u8], offset: Chars, len: Chars, i: Chars) -> Sy
     requires { ⌜ IsWidth w ⌝ }
     ensures { λ r. ⌜ symbolSays r ≡ got w (now (bytes .entry)) (offset .0) (len .0) (i .0) ⌝ }
 {
-    match view_outcome(w, bytes, offset, len) {
+    let view = view_outcome(w, bytes, offset, len);
+    let at = i.count();
+    match refuse_if(view, len.count() <= at, Refusal::BadRange) {
         Outcome::Refused(refusal) => Symbol::Refused(refusal),
-        Outcome::Done => {
-            let at = i.count();
-            if len.count() <= at {
-                return Symbol::Refused(Refusal::BadRange);
-            }
-            Symbol::Is(char_at(bytes, w, offset.count() + at))
-        }
+        Outcome::Done => Symbol::Is(char_at(bytes, w, offset.count() + at)),
     }
 }
 
@@ -107,18 +104,9 @@ pub fn slice_outcome(
     requires { ⌜ IsWidth w ⌝ }
     ensures { λ r. ⌜ r ≡ first (sliceTests w (length (now (bytes .entry))) (offset .0) (len .0) (start .0) (end .0)) ⌝ }
 {
-    match view_outcome(w, bytes, offset, len) {
-        Outcome::Refused(refusal) => Outcome::Refused(refusal),
-        Outcome::Done => {
-            if len.count() < end.count() {
-                return Outcome::Refused(Refusal::BadRange);
-            }
-            if end.count() < start.count() {
-                return Outcome::Refused(Refusal::BadRange);
-            }
-            Outcome::Done
-        }
-    }
+    let view = view_outcome(w, bytes, offset, len);
+    let ends = refuse_if(view, len.count() < end.count(), Refusal::BadRange);
+    refuse_if(ends, end.count() < start.count(), Refusal::BadRange)
 }
 
 // The numbers of a slice.
@@ -131,7 +119,9 @@ pub fn slice_numbers(
     end: Chars,
 ) -> Numbers
     requires { ⌜ IsWidth w ⌝ }
-    ensures { λ r. ⌜ numbersSay r ≡ answer (first (sliceTests w (length (now (bytes .entry))) (offset .0) (len .0) (start .0) (end .0))) (offset .0 + start .0, end .0 - start .0) (0, 0) ⌝ }
+    ensures { λ r. ⌜ numbersSay r ≡
+        answer (first (sliceTests w (length (now (bytes .entry))) (offset .0) (len .0) (start .0) (end .0)))
+        (offset .0 + start .0, end .0 - start .0) (0, 0) ⌝ }
 {
     match slice_outcome(w, bytes, offset, len, start, end) {
         Outcome::Refused(refusal) => numbers_of(Outcome::Refused(refusal), offset, len),
@@ -183,7 +173,8 @@ pub fn accepted_part<'a>(w: usize, bytes: &'a [u8], offset: Chars, len: Chars) -
 // The bytes of a normalised view, and no bytes beside a refusal.
 pub fn normal_part<'a>(w: usize, bytes: &'a [u8], offset: Chars, len: Chars) -> &'a [u8]
     requires { ⌜ IsWidth w ⌝ }
-    ensures { λ r. ⌜ now r ≡ ifDone (first (viewTests w (length (now (bytes .entry))) (offset .0) (len .0))) (normalPart w (now (bytes .entry)) (offset .0) (len .0)) [] ⌝ }
+    ensures { λ r. ⌜ now r ≡
+        ifDone (first (viewTests w (length (now (bytes .entry))) (offset .0) (len .0))) (normalPart w (now (bytes .entry)) (offset .0) (len .0)) [] ⌝ }
 {
     match view_outcome(w, bytes, offset, len) {
         Outcome::Refused(_) => &bytes[0..0],

@@ -2,23 +2,25 @@
 use crate::inner::loads::bits_at;
 use crate::inner::loads::bits_pair_at;
 use crate::inner::parts::view_outcome;
-use codes::inner::bits::shr_pair;
-use codes::inner::flips::flip_bases;
-use codes::inner::flips::flip_flags;
+use codes::inner::bits::Pair;
+use codes::inner::checks::bad_word;
+use codes::inner::checks::refuse_if;
+use codes::inner::flips::flip_low;
+use codes::inner::flips::flip_low_pair;
 use codes::refusals::Outcome;
 use codes::refusals::Refusal;
 use codes::units::Chars;
 use codes::words::Word;
 use codes::words::Word128;
-ghost use mathlib.Core.List.{[], _∷_, _++_};
 ghost use mathlib.Core.Path.{_≡_};
-ghost use Prim.Native.Nat.{_+_, _*_, _/_, _≤_, _<_};
+ghost use Prim.Native.Nat.{_+_, _*_, _^_, _≤_};
 ghost use lib.ListN.{length};
 ghost use Rattle.codes.specs.Answers.{wordSays, word128Says};
-ghost use Rattle.codes.specs.Codes.{IsWidth, complement, chars};
-ghost use Rattle.codes.specs.Refusals.{first, badWord};
-ghost use Rattle.codes.specs.Words.{word, flip};
-ghost use Rattle.fields.specs.Fields.{viewTests, flipped, asU64, asU128, flippedAsU64, flippedAsU128};
+ghost use Rattle.codes.specs.Codes.{IsWidth, chars};
+ghost use Rattle.codes.specs.Refusals.{first};
+ghost use Rattle.codes.specs.Words.{word};
+ghost use Rattle.codes.specs.declared.refusals.Outcome.the-variants.{Done};
+ghost use Rattle.fields.specs.Fields.{viewTests, wordTests, asU64, asU128, flippedAsU64, flippedAsU128};
 
 // The refusals of a view's word, whose length runs from `least` to what `bits` hold.
 fn word_outcome(
@@ -30,30 +32,30 @@ fn word_outcome(
     bits: usize,
 ) -> Outcome
     requires { ⌜ IsWidth w ⌝ }
-    ensures { λ r. ⌜ r ≡ first (viewTests w (length (now (bytes .entry))) (offset .0) (len .0) ++ badWord least (bits / w) (len .0) ∷ []) ⌝ }
+    ensures { λ r. ⌜ r ≡ first (wordTests w (length (now (bytes .entry))) (offset .0) (len .0) least bits) ⌝ }
 {
-    match view_outcome(w, bytes, offset, len) {
-        Outcome::Refused(refusal) => Outcome::Refused(refusal),
-        Outcome::Done => {
-            let n = len.count();
-            if n < least {
-                return Outcome::Refused(Refusal::BadWord);
-            }
-            if bits / w < n {
-                return Outcome::Refused(Refusal::BadWord);
-            }
-            Outcome::Done
-        }
-    }
+    let view = view_outcome(w, bytes, offset, len);
+    refuse_if(view, bad_word(least, bits / w, len), Refusal::BadWord)
 }
 
-// All characters of x in reverse, bases complemented.
-pub fn flip_word(w: usize, x: u64) -> u64
+// The word of an accepted view.
+fn view_word(w: usize, bytes: &[u8], offset: Chars, len: Chars) -> u64
     requires { ⌜ IsWidth w ⌝ }
-    requires { ⌜ w ≤ 2 ⌝ }
-    ensures { λ r. ⌜ r ≡ flip w (complement w) (64 / w) x ⌝ }
+    requires { ⌜ first (viewTests w (length (now bytes)) (offset .0) (len .0)) ≡ Done ⌝ }
+    requires { ⌜ w * len .0 ≤ 64 ⌝ }
+    ensures { λ r. ⌜ r ≡ word w (chars w (now (bytes .entry)) (offset .0) (len .0)) ⌝ }
 {
-    if w == 2 { flip_bases(x) } else { flip_flags(x) }
+    bits_at(bytes, w * offset.count(), w * len.count())
+}
+
+// The word of an accepted view, in two halves.
+fn view_pair(w: usize, bytes: &[u8], offset: Chars, len: Chars) -> Pair
+    requires { ⌜ IsWidth w ⌝ }
+    requires { ⌜ first (viewTests w (length (now bytes)) (offset .0) (len .0)) ≡ Done ⌝ }
+    requires { ⌜ w * len .0 ≤ 128 ⌝ }
+    ensures { λ r. ⌜ r .high * 2 ^ 64 + r .low ≡ word w (chars w (now (bytes .entry)) (offset .0) (len .0)) ⌝ }
+{
+    bits_pair_at(bytes, w * offset.count(), w * len.count())
 }
 
 pub fn as_u64(w: usize, bytes: &[u8], offset: Chars, len: Chars) -> Word
@@ -62,7 +64,7 @@ pub fn as_u64(w: usize, bytes: &[u8], offset: Chars, len: Chars) -> Word
 {
     match word_outcome(w, bytes, offset, len, 0, 64) {
         Outcome::Refused(refusal) => Word::Refused(refusal),
-        Outcome::Done => Word::Is(bits_at(bytes, w * offset.count(), w * len.count())),
+        Outcome::Done => Word::Is(view_word(w, bytes, offset, len)),
     }
 }
 
@@ -73,7 +75,7 @@ pub fn as_u128(w: usize, bytes: &[u8], offset: Chars, len: Chars) -> Word128
     match word_outcome(w, bytes, offset, len, 0, 128) {
         Outcome::Refused(refusal) => Word128::Refused(refusal),
         Outcome::Done => {
-            let pair = bits_pair_at(bytes, w * offset.count(), w * len.count());
+            let pair = view_pair(w, bytes, offset, len);
             Word128::Is {
                 low: pair.low,
                 high: pair.high,
@@ -90,9 +92,8 @@ pub fn flipped_as_u64(w: usize, bytes: &[u8], offset: Chars, len: Chars) -> Word
     match word_outcome(w, bytes, offset, len, 1, 64) {
         Outcome::Refused(refusal) => Word::Refused(refusal),
         Outcome::Done => {
-            let n = w * len.count();
-            let x = bits_at(bytes, w * offset.count(), n);
-            Word::Is(flip_word(w, x) >> (64 - n))
+            let x = view_word(w, bytes, offset, len);
+            Word::Is(flip_low(w, x, len.count()))
         }
     }
 }
@@ -105,9 +106,8 @@ pub fn flipped_as_u128(w: usize, bytes: &[u8], offset: Chars, len: Chars) -> Wor
     match word_outcome(w, bytes, offset, len, 1, 128) {
         Outcome::Refused(refusal) => Word128::Refused(refusal),
         Outcome::Done => {
-            let n = w * len.count();
-            let x = bits_pair_at(bytes, w * offset.count(), n);
-            let pair = shr_pair(flip_word(w, x.high), flip_word(w, x.low), 128 - n);
+            let x = view_pair(w, bytes, offset, len);
+            let pair = flip_low_pair(w, x.low, x.high, len.count());
             Word128::Is {
                 low: pair.low,
                 high: pair.high,

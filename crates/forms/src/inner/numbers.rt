@@ -1,4 +1,5 @@
 // Numbers in groups of seven bits, low group first, the top bit set on all but the last byte, in shortest form.
+use codes::inner::bits::wide;
 ghost use mathlib.Core.List.{_++_};
 ghost use mathlib.Core.Path.{_≡_};
 ghost use Prim.Native.Nat.{_≤_, _<_, _^_};
@@ -10,12 +11,6 @@ ghost use Rattle.forms.specs.Numbers.{spelt, spelling, led, Fits};
 pub enum Spelled {
     Is { value: u64, size: usize },
     Bad,
-}
-
-fn wide(x: u8) -> u64
-    ensures { λ r. ⌜ r ≡ x ⌝ }
-{
-    x as u64
 }
 
 // The bytes that n takes.

@@ -2,9 +2,10 @@
 use crate::inner::shapes::plan_of;
 use crate::inner::turns::lane_words;
 use crate::inner::turns::write_turn;
+use codes::inner::bits::smaller;
 use codes::units::Chars;
 ghost use mathlib.Core.Path.{_≡_};
-ghost use Prim.Native.Nat.{_*_, _^_, _≤_, min};
+ghost use Prim.Native.Nat.{_*_, _^_, _≤_};
 ghost use lib.ListN.{length};
 ghost use Rattle.codes.specs.Codes.{IsWidth, chars};
 ghost use Rattle.codes.specs.Made.{Made};
@@ -12,12 +13,6 @@ ghost use Rattle.codes.specs.Refusals.{first};
 ghost use Rattle.codes.specs.declared.refusals.Outcome.the-variants.{Done};
 ghost use Rattle.fields.specs.Fields.{viewTests};
 ghost use Rattle.lanes.specs.Lanes.{lane, steps, streamTests, filled};
-
-pub fn smaller(m: usize, n: usize) -> usize
-    ensures { λ r. ⌜ r ≡ min m n ⌝ }
-{
-    if m < n { m } else { n }
-}
 
 // Zeros below entry `to`.
 fn zero_entries(out: &mut [u32], to: usize)

@@ -1,10 +1,10 @@
 // Flag windows: filling all steps from `skip` on.
 use crate::inner::marks::write_windows;
 use crate::inner::outcomes::window_outcome;
+use codes::inner::bits::smaller;
 use codes::refusals::Outcome;
 use codes::refusals::Refusal;
 use codes::units::Chars;
-use lanes::inner::fills::smaller;
 use lanes::inner::shapes::plan_of;
 use lanes::inner::turns::lane_words;
 use streams::answers::Filled;

@@ -1,25 +1,16 @@
 // The capital letters of a view's bases: whole bytes four letters at a time, and the bases before and behind them one at a time.
+use codes::inner::packing::low_letter;
 use codes::inner::tracks::digit;
 use codes::refusals::Outcome;
 use codes::refusals::Refusal;
 use codes::units::Chars;
 use fields::inner::parts::view_outcome;
 ghost use mathlib.Core.Path.{_≡_};
-ghost use Prim.Native.Nat.{_+_, _-_, _*_, _%_, _^_, _≤_};
+ghost use Prim.Native.Nat.{_+_, _-_, _*_, _^_, _≤_};
 ghost use lib.ListN.{length};
-ghost use Rattle.codes.specs.Codes.{letter};
 ghost use Rattle.codes.specs.Made.{Made};
 ghost use Rattle.codes.specs.Refusals.{ifDone};
 ghost use Rattle.writes.specs.Writes.{letterAt, unpackOutcome, unpackedOver};
-
-const LETTERS: [u8; 4] = [65, 67, 84, 71];
-
-// The letter of the lowest base of a byte.
-fn low_letter(x: u8) -> u8
-    ensures { λ r. ⌜ r ≡ letter (x % 4) ⌝ }
-{
-    LETTERS[(x % 4) as usize]
-}
 
 // Letters `from` up to `to`.
 fn write_some(bytes: &[u8], o: usize, from: usize, to: usize, out: &mut [u8])

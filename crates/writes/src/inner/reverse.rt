@@ -1,13 +1,13 @@
 // A view reversed, bases complemented, into a lent buffer: a word of output is the flip of a word from the view's end.
 use crate::inner::writes::store64;
 use codes::inner::counts::bytes_for;
+use codes::inner::flips::flip_word;
 use codes::inner::tracks::zero_run;
 use codes::refusals::Outcome;
 use codes::refusals::Refusal;
 use codes::units::Chars;
 use fields::inner::loads::bits_at;
 use fields::inner::parts::view_outcome;
-use fields::inner::words::flip_word;
 ghost use mathlib.Core.List.{_++_};
 ghost use mathlib.Core.Path.{_≡_};
 ghost use Prim.Native.Nat.{_+_, _*_, _/_, _%_, _^_, _≤_, _<_};

@@ -46,8 +46,9 @@ returns-3 : tie.Need-returns-3
 returns-3 c =
     let a = c .before .before .before .before .before .before .before .args in
     let h = less-48 (a .n) (per (a .w)) (omega arith) in
-    let e = room (c .before .before .before) in
-    ltb-eq (c .before .before .before .count .result - c .before .before .count2 .result) (c .count3 .result) (a .n * per (a .w)) (a .offset .0 + a .len .0 + 48 * per (a .w)) (λ l. omega arith) (λ l. omega arith)
+    let b = c .before .before in
+    let e = room (b .before) in
+    ltb-eq (b .before .count .result - b .count2 .result) (c .count3 .result) (a .n * per (a .w)) (a .offset .0 + a .len .0 + 48 * per (a .w)) (λ l. omega arith) (λ l. omega arith)
 
 pub bad-view-spec : {M : Type 1} → statement M
 bad-view-spec =

@@ -1,9 +1,8 @@
 -- The letters of a pair are those of its low half and then those of its high half. Assumes nothing.
 use mathlib.Core.Path.{_≡_, sym, ap, ap₂, _∙_}
 use mathlib.Core.List.{List, map, _++_, map-append}
-use Prim.Native.Nat.{ℕ, _+_, _-_, _*_, _^_, _≤_, _<_}
+use Prim.Native.Nat.{ℕ, _+_, _-_, _*_, _^_}
 use native.Mathlib.Omega.{arith}
-use native.Mathlib.Nat.{add-sub-of-le}
 use lib.ListN.{length-map, drop}
 use Rattle.codes.specs.Codes.{letter}
 use Rattle.codes.specs.Words.{charsOf}
@@ -51,11 +50,17 @@ returns-2 : tie.Need-returns-2
 returns-2 c =
     let s = c .before .before .before .before .before .before .before .before .before .before in
     let a = s .args in
-    let k : 32 + (a .k - 32) ≡ a .k = omega arith in
-    written-on 32 (a .k - 32) (map letter (charsOf 2 32 (a .low))) (map letter (charsOf 2 (a .k - 32) (a .high))) (a .out .now) (c .before .before .before .before .before .before .unpack2 .last .1 .1 .0) (c .before .before .unpack3 .last .1 .1 .0)
-    (length-map (charsOf 2 32 (a .low)) letter ∙ length-charsOf 2 32 (a .low)) (c .before .before .before .before .before .before .unpack2 .ensures) (c .before .before .unpack3 .ensures)
+    let m : ℕ = a .k - 32 in
+    let k : 32 + m ≡ a .k = omega arith in
+    let low : List ℕ = charsOf 2 32 (a .low) in
+    let high : List ℕ = charsOf 2 m (a .high) in
+    let one = c .before .before .before .before .before .before .unpack2 in
+    let two = c .before .before .unpack3 in
+    written-on 32 m (map letter low) (map letter high) (a .out .now) (one .last .1 .1 .0) (two .last .1 .1 .0)
+    (length-map low letter ∙ length-charsOf 2 32 (a .low)) (one .ensures) (two .ensures)
     ∙ ap₂ (λ (p q : List ℕ). p ++ q)
-    (sym (map-append letter (charsOf 2 32 (a .low)) (charsOf 2 (a .k - 32) (a .high))) ∙ ap (map letter) (sym (charsOf-pair 2 32 (a .k - 32) (a .low) (a .high) (s .fits .low .fits)) ∙ ap (λ (n : ℕ). charsOf 2 n (a .high * 2 ^ 64 + a .low)) k))
+    (sym (map-append letter low high)
+    ∙ ap (map letter) (sym (charsOf-pair 2 32 m (a .low) (a .high) (s .fits .low .fits)) ∙ ap (λ (n : ℕ). charsOf 2 n (a .high * 2 ^ 64 + a .low)) k))
     (ap (λ (n : ℕ). drop n (a .out .now)) k)
 
 pub unpack-pair-spec : {M : Type 1} → statement M

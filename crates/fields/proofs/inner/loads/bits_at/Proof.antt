@@ -25,12 +25,14 @@ low-bits-requires c κs = search needs
 
 returns : tie.Need-returns
 returns c =
-    let a = c .before .before .before .before .before .args in
-    let r = c .before .shr-pair .result in
+    let s = c .before in
+    let a = s .before .before .before .before .args in
+    let r = s .shr-pair .result in
+    let x = word 8 (a .bytes .now) in
     let split : 8 * (a .p / 8) + a .p % 8 ≡ a .p = omega arith in
     c .low-bits .ensures
-    ∙ nine (word 8 (a .bytes .now)) (a .p / 8) (a .p % 8) (a .n) _ _ (r .low) (r .high) (c .before .before .before .load64 .ensures) (c .before .before .load8 .ensures) (c .before .shr-pair .ensures) (search needs) (omega arith) (omega arith)
-    ∙ ap (λ (k : ℕ). word 8 (a .bytes .now) / 2 ^ k % 2 ^ (a .n)) split
+    ∙ nine x (a .p / 8) (a .p % 8) (a .n) _ _ (r .low) (r .high) (s .before .before .load64 .ensures) (s .before .load8 .ensures) (s .shr-pair .ensures) (search needs) (omega arith) (omega arith)
+    ∙ ap (λ (k : ℕ). x / 2 ^ k % 2 ^ (a .n)) split
 
 pub bits-at-spec : {M : Type 1} → statement M
 bits-at-spec =

@@ -1,17 +1,9 @@
--- The view's bits are its word. Assumes nothing.
-use mathlib.Core.List.{[], _∷_, _++_}
-use mathlib.Core.Path.{_≡_, sym, ap₂, _∙_}
-use Prim.Native.Nat.{ℕ, _*_, _/_, _%_, _^_}
-use native.Mathlib.Omega.{arith}
+-- The view's word, where it is not refused. Assumes nothing.
+use mathlib.Core.Path.{sym, _∙_}
 use lib.ListN.{length}
-use Rattle.codes.specs.Refusals.{first, badWord}
-use Rattle.codes.specs.Words.{word}
-use Rattle.codes.specs.declared.refusals.Outcome.the-variants.{Done}
-use Rattle.codes.proofs.FieldLaws.{word-chars}
-use Rattle.codes.proofs.TabLaws.{Below-of}
-use Rattle.fields.specs.Fields.{viewTests, asU64}
-use Rattle.fields.proofs.LoadLaws.{Wordy, word-room, word-place, word-fits}
 use Rattle.codes.proofs.OutcomeLaws.{answer-done, answer-refused}
+use Rattle.fields.specs.Fields.{asU64}
+use Rattle.fields.proofs.LoadLaws.{Wordy, word-open}
 use borrow.Author.Needs.{needs}
 use Rattle.fields.proofs.inner.words.as_u64.Statement.{statement}
 use Rattle.fields.proofs.inner.words.as_u64.Tie as tie
@@ -25,60 +17,21 @@ enum-known-refusal c = search needs
 enum-told : tie.Need-enum-told
 enum-told c = search needs
 
-count-requires : tie.Need-count-requires
-count-requires c κs = search needs
+room : (c : tie.After-enum-told) → let a = c .before .before .before .before .args in Wordy (a .w) (length (a .bytes .now)) (a .offset .0) (a .len .0) 0 64
+room c = word-open _ _ _ _ 0 64 (sym (c .before .before .word-outcome .ensures) ∙ c .enum-told .given .1)
 
-done : (c : tie.After-enum-told) → first (viewTests (c .before .before .before .before .args .w) (length (c .before .before .before .before .args .bytes .now)) (c .before .before .before .before .args .offset .0) (c .before .before .before .before .args .len .0) ++ badWord 0 (64 / c .before .before .before .before .args .w) (c .before .before .before .before .args .len .0) ∷ []) ≡ Done
-done c = sym (c .before .before .word-outcome .ensures) ∙ c .enum-told .given .1
-
-room : (c : tie.After-enum-told) → Wordy (c .before .before .before .before .args .w) (length (c .before .before .before .before .args .bytes .now)) (c .before .before .before .before .args .offset .0) (c .before .before .before .before .args .len .0) 0 64
-room c = word-room (c .before .before .before .before .pre) _ _ _ 0 64 (done c)
-
-mul-bits-at : tie.Need-mul-bits-at
-mul-bits-at c =
-    let a = c .before .before .before .before .before .args in
-    record { fits = omega (arith, word-place _ _ _ _ _ _ _ (room (c .before)) (c .count .ensures) .1) }
-
-count-requires-2 : tie.Need-count-requires-2
-count-requires-2 c κs = search needs
-
-mul-bits-at-2 : tie.Need-mul-bits-at-2
-mul-bits-at-2 c =
-    let a = c .before .before .before .before .before .before .args in
-    record { fits = omega (arith, word-fits _ _ _ _ _ _ _ (room (c .before .before)) (c .count2 .ensures)) }
-
-bits-at-requires : tie.Need-bits-at-requires
-bits-at-requires c κs = (word-fits _ _ _ _ _ _ _ (room (c .before .before)) (c .count2 .ensures), omega (arith, word-place _ _ _ _ _ _ _ (room (c .before .before)) (c .before .count .ensures) .0))
+view-word-requires : tie.Need-view-word-requires
+view-word-requires c κs = (c .before .before .before .before .pre, (room c .view, room c .fits))
 
 returns : tie.Need-returns
 unfolding asU64
-returns c =
-    let s = c .before .before .before in
-    let a = s .before .before .args in
-    answer-refused (first (viewTests (a .w) (length (a .bytes .now)) (a .offset .0) (a .len .0) ++ badWord 0 (64 / a .w) (a .len .0) ∷ [])) (c .before .refusal .given .0 .0) _ 0 (sym (s .word-outcome .ensures) ∙ c .before .refusal .given .1)
+returns c = answer-refused _ _ _ 0 (sym (c .before .before .before .word-outcome .ensures) ∙ c .before .refusal .given .1)
 
 returns-2 : tie.Need-returns-2
 unfolding asU64
-returns-2 c =
-    let s = c .before .before .before in
-    let a = s .before .before .before .before .args in
-    let bs = a .bytes .now in
-    answer-done (first (viewTests (a .w) (length (a .bytes .now)) (a .offset .0) (a .len .0) ++ badWord 0 (64 / a .w) (a .len .0) ∷ [])) _ _ 0 (done s)
-    (c .bits-at .ensures
-    ∙ ap₂ (λ (p q : ℕ). word 8 bs / 2 ^ (a .w * p) % 2 ^ (a .w * q)) (c .before .before .count .ensures) (c .before .count2 .ensures)
-    ∙ sym (word-chars (s .before .before .before .before .pre) bs (Below-of 8 bs (λ i. omega (arith, s .before .before .before .shared-slice-known .given i))) (a .offset .0) (a .len .0)))
+returns-2 c = answer-done _ _ _ 0 (sym (c .before .before .before .word-outcome .ensures) ∙ c .before .enum-told .given .1) (c .view-word .ensures)
 
 pub as-u64-spec : {M : Type 1} → statement M
 as-u64-spec =
     tie.close
-    (tie.spec
-    word-outcome-requires
-    enum-known-refusal
-    enum-told
-    count-requires
-    mul-bits-at
-    count-requires-2
-    mul-bits-at-2
-    bits-at-requires
-    returns
-    returns-2)
+    (tie.spec word-outcome-requires enum-known-refusal enum-told view-word-requires returns returns-2)

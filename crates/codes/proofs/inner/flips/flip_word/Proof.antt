@@ -2,12 +2,12 @@
 use mathlib.Core.Path.{_≡_, sym, ap, _∙_}
 use Prim.Native.Nat.{ℕ, _/_}
 use native.Mathlib.Omega.{arith}
 use Rattle.codes.specs.Codes.{complement}
 use Rattle.codes.specs.Words.{flip}
 use Rattle.codes.proofs.WidthLaws.{width-pos}
 use borrow.Author.Needs.{needs}
-use Rattle.fields.proofs.inner.words.flip_word.Statement.{statement}
-use Rattle.fields.proofs.inner.words.flip_word.Tie as tie
+use Rattle.codes.proofs.inner.flips.flip_word.Statement.{statement}
+use Rattle.codes.proofs.inner.flips.flip_word.Tie as tie
 
 flip-bases-requires : tie.Need-flip-bases-requires
 flip-bases-requires c κs = search needs
