@@ -18,6 +18,10 @@ pub length-chars : (w : ℕ) (bs : List ℕ) (o n : ℕ) → length (chars w bs 
 unfolding chars
 length-chars w bs o n = length-tab n (λ i. charAt w bs (o + i))
 
+-- equal characters are as many
+pub same-length : (w : ℕ) (xs : List ℕ) (p m : ℕ) (bs : List ℕ) (o n : ℕ) → chars w xs p m ≡ chars w bs o n → m ≡ n
+same-length w xs p m bs o n e = sym (length-chars w xs p m) ∙ ap length e ∙ length-chars w bs o n
+
 pub getD-chars : (w : ℕ) (bs : List ℕ) (o n i : ℕ) → i < n → getD (chars w bs o n) i 0 ≡ charAt w bs (o + i)
 unfolding chars
 getD-chars w bs o n i h = getD-tab n (λ i. charAt w bs (o + i)) i h

@@ -75,7 +75,8 @@ pub fn step(
     ensures bases { λ _. ⌜ now (bases .exit) ≡ trackAfter 2 reader (seen (now (part .entry)) (now (out .entry))) (now (bases .entry)) ⌝ }
     ensures flags { λ _. ⌜ now (flags .exit) ≡ trackAfter 1 reader (seen (now (part .entry)) (now (out .entry))) (now (flags .entry)) ⌝ }
     ensures other { λ _. ⌜ now (other .exit) ≡ otherAfter reader (seen (now (part .entry)) (now (out .entry))) (now (bases .entry)) (now (other .entry)) ⌝ }
-    ensures out { λ _. ⌜ now (out .exit) ≡ onto (next reader (seen (now (part .entry)) (now (out .entry))) (now (bases .entry)) (now (flags .entry)) .written) (now (out .entry)) ⌝ }
+    ensures out { λ _. ⌜ now (out .exit)
+        ≡ onto (next reader (seen (now (part .entry)) (now (out .entry))) (now (bases .entry)) (now (flags .entry)) .written) (now (out .entry)) ⌝ }
 {
     if part.len() == 0 {
         return Stepped {

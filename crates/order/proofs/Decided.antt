@@ -2,7 +2,7 @@
 -- Assumes nothing.
 use denote.Ref.{now}
 use mathlib.Core.Path.{_≡_, sym, _∙_}
-use Rattle.codes.proofs.Permitted.{Decided, Settled}
+use Rattle.codes.proofs.Permitted.{Decided}
 use Rattle.codes.proofs.RefusalLaws.{says-once}
 use Rattle.order.proofs.AnswerLaws.{compared-told, ordered-told, equality-told, found-told, least-told}
 use Rattle.order.proofs.bases.cmp_lcp.Kinds as bases-cmp-lcp·kinds
@@ -15,7 +15,6 @@ use Rattle.order.proofs.bases.find.Kinds as bases-find·kinds
 use Rattle.order.proofs.bases.find.Reads as bases-find
 use Rattle.order.proofs.bases.least_numbers.Kinds as bases-least-numbers·kinds
 use Rattle.order.proofs.bases.least_numbers.Reads as bases-least-numbers
-use Rattle.order.proofs.bases.least.Kinds as bases-least·kinds
 use Rattle.order.proofs.bases.least.Reads as bases-least
 use Rattle.order.proofs.flags.cmp_lcp.Kinds as flags-cmp-lcp·kinds
 use Rattle.order.proofs.flags.cmp_lcp.Reads as flags-cmp-lcp
@@ -27,7 +26,6 @@ use Rattle.order.proofs.flags.find.Kinds as flags-find·kinds
 use Rattle.order.proofs.flags.find.Reads as flags-find
 use Rattle.order.proofs.flags.least_numbers.Kinds as flags-least-numbers·kinds
 use Rattle.order.proofs.flags.least_numbers.Reads as flags-least-numbers
-use Rattle.order.proofs.flags.least.Kinds as flags-least·kinds
 use Rattle.order.proofs.flags.least.Reads as flags-least
 
 pub bases-cmp-lcp-decided : Decided 2 bases-cmp-lcp·kinds.ps bases-cmp-lcp·kinds.r bases-cmp-lcp.Post

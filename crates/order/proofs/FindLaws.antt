@@ -87,10 +87,10 @@ module _ (w : ℕ) (p : List ℕ) (po pl : ℕ) (t : List ℕ) (to tl : ℕ) whe
   abbrev pub Stands : ℕ → Type 0
   Stands k = StandsAt (λ i. charAt w t (to + i)) tl (λ i. charAt w p (po + i)) pl k
 
-  pub found-at : (k : ℕ) → Stands k → ((j : ℕ) → j < k → Stands j → ⊥) → answer Done (true, k) (false, 0) ≡ answer Done (placed w p po pl t to tl (placeOf (chars w p po pl) (chars w t to tl))) (false, 0)
+  pub found-at : (k : ℕ) → Stands k → ((j : ℕ) → j < k → Stands j → ⊥) → answer Done (true, k) (false, 0) ≡ answer Done (placed (placeOf (chars w p po pl) (chars w t to tl))) (false, 0)
   unfolding chars
-  found-at k s h = sym (ap (λ (x : Option ℕ). answer Done (placed w p po pl t to tl x) (false, 0)) (place-at k pl tl (λ i. charAt w t (to + i)) (λ i. charAt w p (po + i)) s h))
+  found-at k s h = sym (ap (λ (x : Option ℕ). answer Done (placed x) (false, 0)) (place-at k pl tl (λ i. charAt w t (to + i)) (λ i. charAt w p (po + i)) s h))
 
-  pub found-none : ((j : ℕ) → Stands j → ⊥) → answer Done (false, 0) (false, 0) ≡ answer Done (placed w p po pl t to tl (placeOf (chars w p po pl) (chars w t to tl))) (false, 0)
+  pub found-none : ((j : ℕ) → Stands j → ⊥) → answer Done (false, 0) (false, 0) ≡ answer Done (placed (placeOf (chars w p po pl) (chars w t to tl))) (false, 0)
   unfolding chars
-  found-none h = sym (ap (λ (x : Option ℕ). answer Done (placed w p po pl t to tl x) (false, 0)) (place-none pl tl (λ i. charAt w t (to + i)) (λ i. charAt w p (po + i)) h))
+  found-none h = sym (ap (λ (x : Option ℕ). answer Done (placed x) (false, 0)) (place-none pl tl (λ i. charAt w t (to + i)) (λ i. charAt w p (po + i)) h))

@@ -1,9 +1,11 @@
--- The common length of two views by words of 56 bits: equal words hold equal characters, and the lowest bit that differs stands in the first character that does.
+-- The common length of two views by words of 56 bits: equal words hold equal characters, and the lowest bit that differs stands in
+-- the first character that does.
 -- Assumes nothing.
 use mathlib.Core.List.{List}
 use mathlib.Core.Path.{_≡_, refl, sym, ap, ap₂, _∙_, subst}
 use Prim.Native.Nat.{ℕ, zero, suc, _+_, _-_, _*_, _/_, _%_, _^_, _≤_, _<_, min}
-use native.Mathlib.Nat.{add-zero, le-of-suc-le-suc, div-one, mod-one, mul-add, zero-div, zero-mod, add-comm, add-assoc, add-sub-of-le, lt-of-lt-of-le, lt-of-le-of-lt, lt-trans, le-of-lt, le-trans, min-le-left, min-le-right, le-min, min-eq-left, min-eq-right, mul-suc, mul-comm, mul-le-mul-left, mul-div-le, lt-div-mul-add, lt-of-mul-lt-mul-left}
+use native.Mathlib.Nat.{add-zero, add-comm, add-assoc, add-sub-of-le, mul-add, mul-suc, mul-comm, mul-le-mul-left, div-one, mod-one, zero-div, zero-mod, mul-div-le, lt-div-mul-add}
+use native.Mathlib.Nat.{le-of-suc-le-suc, lt-of-lt-of-le, lt-of-le-of-lt, lt-trans, le-of-lt, le-trans, lt-of-mul-lt-mul-left, min-le-left, min-le-right, le-min, min-eq-left, min-eq-right}
 use native.Mathlib.Numerals.{add-one}
 use native.Mathlib.Omega.{arith}
 use lib.Bits.{bitXor, xor-add-and, and-le-l, and-le-r, xor-shr, xor-mod, xor-self}
@@ -48,17 +50,24 @@ record Peeked (w : ℕ) (s : List ℕ) (o p x : ℕ) : Type 0 where
   place : p ≡ w * o
   bits : x % 2 ^ 56 ≡ word 8 s / 2 ^ p % 2 ^ 56
 
+zero-bits : (m n : ℕ) → 0 / 2 ^ m % 2 ^ n ≡ 0
+zero-bits m n = rw (zero-div, zero-mod)
+
 module _ {w : ℕ} (W : IsWidth w) where
+  -- the bits of a number that are character j
+  abbrev field : ℕ → ℕ → ℕ
+  field x j = x / 2 ^ (w * j) % 2 ^ w
+
   -- a character within the 56 bits
-  peeked-char : (s : List ℕ) → Below 8 s → (o p x : ℕ) → Peeked w s o p x → (j : ℕ) → w * j + w ≤ 56 → charAt w s (o + j) ≡ x / 2 ^ (w * j) % 2 ^ w
+  peeked-char : (s : List ℕ) → Below 8 s → (o p x : ℕ) → Peeked w s o p x → (j : ℕ) → w * j + w ≤ 56 → charAt w s (o + j) ≡ field x j
   peeked-char s b o p x h j l =
       charAt-is W s b (o + j)
       ∙ ap (λ (y : ℕ). y % 2 ^ w) (ap (λ (e : ℕ). word 8 s / 2 ^ e) (mul-add w o j ∙ ap (λ (e : ℕ). e + w * j) (sym (h .place))) ∙ sym (shr-shr (word 8 s) p (w * j)))
       ∙ sym (field-of (word 8 s / 2 ^ p) (w * j) w 56 l)
-      ∙ ap (λ (y : ℕ). y / 2 ^ (w * j) % 2 ^ w) (sym (h .bits))
+      ∙ ap (λ (y : ℕ). field y j) (sym (h .bits))
       ∙ field-of x (w * j) w 56 l
 
-  xor-field : (x y j : ℕ) → bitXor x y / 2 ^ (w * j) % 2 ^ w ≡ bitXor (x / 2 ^ (w * j) % 2 ^ w) (y / 2 ^ (w * j) % 2 ^ w)
+  xor-field : (x y j : ℕ) → field (bitXor x y) j ≡ bitXor (field x j) (field y j)
   xor-field x y j = ap (λ (z : ℕ). z % 2 ^ w) (xor-shr x y (w * j)) ∙ xor-mod (x / 2 ^ (w * j)) (y / 2 ^ (w * j)) w
 
   module _ (s t : List ℕ) (bs : Below 8 s) (bt : Below 8 t) (o o′ p q x y : ℕ) (hx : Peeked w s o p x) (hy : Peeked w t o′ q y) where
@@ -66,22 +75,19 @@ module _ {w : ℕ} (W : IsWidth w) where
     same-below : (m j : ℕ) → m ≤ 56 → bitXor x y % 2 ^ m ≡ 0 → w * j + w ≤ m → charAt w s (o + j) ≡ charAt w t (o′ + j)
     same-below m j hm z l =
         peeked-char s bs o p x hx j (omega arith)
-        ∙ xor-same (x / 2 ^ (w * j) % 2 ^ w) (y / 2 ^ (w * j) % 2 ^ w) (sym (xor-field x y j) ∙ sym (field-of (bitXor x y) (w * j) w m l) ∙ ap (λ (n : ℕ). n / 2 ^ (w * j) % 2 ^ w) z ∙ zero-field (w * j))
+        ∙ xor-same (field x j) (field y j) (sym (xor-field x y j) ∙ sym (field-of (bitXor x y) (w * j) w m l) ∙ ap (λ (n : ℕ). field n j) z ∙ zero-bits (w * j) w)
         ∙ sym (peeked-char t bt o′ q y hy j (omega arith))
-      where
-        zero-field : (k : ℕ) → 0 / 2 ^ k % 2 ^ w ≡ 0
-        zero-field k = rw (zero-div, zero-mod)
 
     -- at the first bit that differs, the character does
     differ-at : (m j : ℕ) → bitXor x y / 2 ^ m % 2 ≡ 1 → w * j ≤ m → m < w * j + w → w * j + w ≤ 56 → charAt w s (o + j) ≡ charAt w t (o′ + j) → ⊥
     differ-at m j one lo hi l e =
-        let d : m - w * j + 1 ≤ w = omega arith in
-        let z : bitXor x y / 2 ^ (w * j) % 2 ^ w ≡ 0 = xor-field x y j ∙ ap (λ (n : ℕ). bitXor n (y / 2 ^ (w * j) % 2 ^ w)) (sym (peeked-char s bs o p x hx j l) ∙ e ∙ peeked-char t bt o′ q y hy j l) ∙ xor-self (y / 2 ^ (w * j) % 2 ^ w) in
-        let f : 0 ≡ bitXor x y / 2 ^ m % 2 = sym (zero-bit (m - w * j)) ∙ ap (λ (n : ℕ). n / 2 ^ (m - w * j) % 2 ^ 1) (sym z) ∙ field-of (bitXor x y / 2 ^ (w * j)) (m - w * j) 1 w d ∙ ap (λ (n : ℕ). n % 2) (shr-shr (bitXor x y) (w * j) (m - w * j) ∙ ap (λ (n : ℕ). bitXor x y / 2 ^ n) (add-sub-of-le lo)) in
+        let k : ℕ = m - w * j in
+        let d : k + 1 ≤ w = omega arith in
+        let same = sym (peeked-char s bs o p x hx j l) ∙ e ∙ peeked-char t bt o′ q y hy j l in
+        let z : field (bitXor x y) j ≡ 0 = xor-field x y j ∙ ap (λ (n : ℕ). bitXor n (field y j)) same ∙ xor-self (field y j) in
+        let bit = shr-shr (bitXor x y) (w * j) k ∙ ap (λ (n : ℕ). bitXor x y / 2 ^ n) (add-sub-of-le lo) in
+        let f : 0 ≡ bitXor x y / 2 ^ m % 2 = sym (zero-bits k 1) ∙ ap (λ (n : ℕ). n / 2 ^ k % 2 ^ 1) (sym z) ∙ field-of (bitXor x y / 2 ^ (w * j)) k 1 w d ∙ ap (λ (n : ℕ). n % 2) bit in
         omega (arith, f, one)
-      where
-        zero-bit : (k : ℕ) → 0 / 2 ^ k % 2 ^ 1 ≡ 0
-        zero-bit k = rw (zero-div, zero-mod)
 
 -- the common length of two views, by the places of their characters
 common-chars : (w : ℕ) (s : List ℕ) (o al : ℕ) (t : List ℕ) (o′ bl r : ℕ) → r ≤ al → r ≤ bl → ((j : ℕ) → j < r → charAt w s (o + j) ≡ charAt w t (o′ + j))
@@ -119,7 +125,8 @@ module _ {w : ℕ} (W : IsWidth w) (s t : List ℕ) (bs : Below 8 s) (bt : Below
   -- otherwise the lowest differing bit stands in the first character that differs
   lcp-found : (al bl n : ℕ) → n ≡ min al bl → (bitXor x y % 2 ^ 56 ≡ 0 → ⊥) → min (i + trailingZeros 64 (bitXor x y) / w) n ≡ common (chars w s o al) (chars w t o′ bl)
   lcp-found al bl n en z =
-      below-or (i + m / w) n (λ l. min-eq-left (le-of-lt l) ∙ common-chars w s o al t o′ bl (i + m / w) (omega (arith, min-le-left al bl)) (omega (arith, min-le-right al bl)) same (λ _ _ e. other e))
+      below-or (i + m / w) n
+      (λ l. min-eq-left (le-of-lt l) ∙ common-chars w s o al t o′ bl (i + m / w) (omega (arith, min-le-left al bl)) (omega (arith, min-le-right al bl)) same (λ _ _ e. other e))
       (λ l. min-eq-right l ∙ same-all w s o al t o′ bl (i + m / w) n en l same)
     where
       m : ℕ
@@ -141,7 +148,9 @@ module _ {w : ℕ} (W : IsWidth w) (s t : List ℕ) (bs : Below 8 s) (bt : Below
       hi = subst (λ (k : ℕ). m < k + w) (mul-comm (m / w) w) (lt-div-mul-add (width-pos W))
 
       within : w * (m / w) + w ≤ 56
-      within = le-trans (subst (λ (k : ℕ). k ≤ w * (56 / w)) (mul-suc w (m / w)) (mul-le-mul-left w (lt-of-mul-lt-mul-left w (lt-of-le-of-lt lo (subst (λ (k : ℕ). m < k) (sym (whole W 7)) small))))) (mul-div-le 56 w)
+      within =
+          let l : m / w < 56 / w = lt-of-mul-lt-mul-left w (lt-of-le-of-lt lo (subst (λ (k : ℕ). m < k) (sym (whole W 7)) small)) in
+          le-trans (subst (λ (k : ℕ). k ≤ w * (56 / w)) (mul-suc w (m / w)) (mul-le-mul-left w l)) (mul-div-le 56 w)
 
       other : charAt w s (o + (i + m / w)) ≡ charAt w t (o′ + (i + m / w)) → ⊥
       other e =
@@ -189,14 +198,20 @@ module _ {w : ℕ} {s : List ℕ} {o al : ℕ} {t : List ℕ} {o′ bl n : ℕ} 
     passed-all l = same-all w s o al t o′ bl i n (v .least) l (h .same)
 
     module _ (x y : ℕ) (ex : x % 2 ^ 56 ≡ word 8 s / 2 ^ p % 2 ^ 56) (ey : y % 2 ^ 56 ≡ word 8 t / 2 ^ q % 2 ^ 56) where
+      left-peeked : Peeked w s (o + i) p x
+      left-peeked = record { place = h .left; bits = ex }
+
+      right-peeked : Peeked w t (o′ + i) q y
+      right-peeked = record { place = h .right; bits = ey }
+
       -- 56 equal bits are passed
       pub passed-turn : bitXor x y % 2 ^ 56 ≡ 0 → Passed w s o t o′ (i + 56 / w) (p + 56) (q + 56)
       passed-turn z = record {
         left = place-on (v .width) o i p (h .left);
         right = place-on (v .width) o′ i q (h .right);
-        same = lcp-turn (v .width) s t (v .bytes .0) (v .bytes .1) o o′ i p q x y (record { place = h .left; bits = ex }) (record { place = h .right; bits = ey }) (h .same) z;
+        same = lcp-turn (v .width) s t (v .bytes .0) (v .bytes .1) o o′ i p q x y left-peeked right-peeked (h .same) z;
       }
 
       -- 56 bits that differ show where
       pub passed-found : (bitXor x y % 2 ^ 56 ≡ 0 → ⊥) → min (i + trailingZeros 64 (bitXor x y) / w) n ≡ common (chars w s o al) (chars w t o′ bl)
-      passed-found z = lcp-found (v .width) s t (v .bytes .0) (v .bytes .1) o o′ i p q x y (record { place = h .left; bits = ex }) (record { place = h .right; bits = ey }) (h .same) al bl n (v .least) z
+      passed-found z = lcp-found (v .width) s t (v .bytes .0) (v .bytes .1) o o′ i p q x y left-peeked right-peeked (h .same) al bl n (v .least) z

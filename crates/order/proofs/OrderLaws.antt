@@ -3,7 +3,7 @@
 use mathlib.Core.Bool.{Bool, true, false}
 use mathlib.Core.List.{List, [], _∷_}
 use mathlib.Core.Path.{_≡_, refl, sym, ap, ap₂, _∙_}
-use Prim.Native.Nat.{ℕ, zero, suc, _+_, _*_, _^_, _≤_, _<_, zero-le, suc-le-suc}
+use Prim.Native.Nat.{ℕ, zero, suc, _+_, _*_, _/_, _^_, _≤_, _<_, zero-le, suc-le-suc}
 use native.Mathlib.Decide.{ℕ-discrete}
 use native.Mathlib.Nat.{le-of-suc-le-suc}
 use native.Mathlib.Omega.{arith}
@@ -22,6 +22,7 @@ use Rattle.fields.specs.Fields.{viewTests}
 use Rattle.order.specs.declared.answers.Order.{Order}
 use Rattle.order.specs.declared.answers.Order.the-variants.{Less, Equal, Greater}
 use Rattle.fields.proofs.LoadLaws.{Bits, view-bits}
+use Rattle.fields.proofs.ViewLaws.{view-accepted, room-sum, room-char}
 
 -- r characters are equal, and there is none behind them or it differs
 pub common-is : (xs ys : List ℕ) (r : ℕ) → r ≤ length xs → r ≤ length ys → ((j : ℕ) → j < r → getD xs j 0 ≡ getD ys j 0)
@@ -63,10 +64,10 @@ compare-length (x ∷ xs) (y ∷ ys) e = ap suc (compare-length xs ys (behind (l
     behind false true o e = let z : _≡_ {A = ℕ} 0 1 = cc in absurd (omega arith)
     behind false false o e = e
 
-pub unequal-lengths : (w : ℕ) (s : List ℕ) (o al : ℕ) (t : List ℕ) (o′ bl : ℕ) → (al ≡ bl → ⊥) → false ≡ isEqual w s o al t o′ bl (pairOrder w s o al t o′ bl)
+pub unequal-lengths : (w : ℕ) (s : List ℕ) (o al : ℕ) (t : List ℕ) (o′ bl : ℕ) → (al ≡ bl → ⊥) → false ≡ isEqual (pairOrder w s o al t o′ bl)
 unequal-lengths w s o al t o′ bl n = other (pairOrder w s o al t o′ bl) (λ e. n (sym (length-chars w s o al) ∙ compare-length (chars w s o al) (chars w t o′ bl) e ∙ length-chars w t o′ bl))
   where
-    other : (p : Order) → (p ≡ Equal → ⊥) → false ≡ isEqual w s o al t o′ bl p
+    other : (p : Order) → (p ≡ Equal → ⊥) → false ≡ isEqual p
     other Less n = refl
     other Equal n = absurd (n refl)
     other Greater n = refl
@@ -88,14 +89,28 @@ pair-bits {w} W m ao al n bo bl e =
     let v = pair-views w m ao al n bo bl e in
     (view-bits W m ao al (v .0), view-bits W n bo bl (v .1))
 
+-- where character k of a view of n bytes from character o on stands
+abbrev pub Place : ℕ → ℕ → ℕ → ℕ → Type 0
+Place w n o k = (o + k < 2 ^ 31) × ((o + k) / per w < n)
+
+pub pair-places : {w : ℕ} → IsWidth w → (m ao al n bo bl : ℕ) → first (pairTests w m ao al n bo bl) ≡ Done → (k : ℕ) → k < al → k < bl → Place w m ao k × Place w n bo k
+pair-places {w} W m ao al n bo bl e k h l =
+    let v = pair-views w m ao al n bo bl e in
+    let a = view-accepted w m ao al (v .0) in
+    let b = view-accepted w n bo bl (v .1) in
+    ((omega (arith, room-sum W a), room-char W a k h), (omega (arith, room-sum W b), room-char W b k l))
+
 -- the order of two views of which k leading characters are equal and no more
 module _ (w : ℕ) (s : List ℕ) (o al : ℕ) (t : List ℕ) (o′ bl k : ℕ) (e : k ≡ common (chars w s o al) (chars w t o′ bl)) where
-  order-views : compare (chars w s o al) (chars w t o′ bl)
-      ≡ pick (ltb k al) (pick (ltb k bl) (pick (ltb (getD (chars w s o al) k 0) (getD (chars w t o′ bl) k 0)) Less Greater) Greater) (pick (ltb k bl) Less Equal)
+  -- by lengths m and n
+  abbrev decided : ℕ → ℕ → Order
+  decided m n = pick (ltb k m) (pick (ltb k n) (pick (ltb (getD (chars w s o al) k 0) (getD (chars w t o′ bl) k 0)) Less Greater) Greater) (pick (ltb k n) Less Equal)
+
+  order-views : compare (chars w s o al) (chars w t o′ bl) ≡ decided al bl
   order-views =
       compare-common (chars w s o al) (chars w t o′ bl)
       ∙ ap (λ (n : ℕ). orderFrom n (chars w s o al) (chars w t o′ bl)) (sym e)
-      ∙ ap₂ (λ (m n : ℕ). pick (ltb k m) (pick (ltb k n) (pick (ltb (getD (chars w s o al) k 0) (getD (chars w t o′ bl) k 0)) Less Greater) Greater) (pick (ltb k n) Less Equal)) (length-chars w s o al) (length-chars w t o′ bl)
+      ∙ ap₂ decided (length-chars w s o al) (length-chars w t o′ bl)
 
   pub order-behind : k < al → k < bl → compare (chars w s o al) (chars w t o′ bl) ≡ pick (ltb (charAt w s (o + k)) (charAt w t (o′ + k))) Less Greater
   order-behind h l = order-views ∙ simp (lt-ltb k al h, lt-ltb k bl l, getD-chars w s o al k h, getD-chars w t o′ bl k l)

@@ -1,8 +1,8 @@
--- Only the characters of two views count: accepted views with equal characters get equal answers, call by call. Each answer is made of the outcome, the lengths and the characters alone.
+-- Only the characters of two views count: accepted views with equal characters get equal answers, call by call. Each answer is made
+-- of the outcome, the lengths and the characters alone.
 -- Assumes nothing.
 use mathlib.Core.Bool.{Bool, true, false}
 use mathlib.Core.List.{List, []}
-use mathlib.Core.Option.{Option, some, none}
 use mathlib.Core.Path.{_≡_, refl, sym, ap, _∙_}
 use Prim.Native.Nat.{ℕ, _+_, _-_, _*_, _%_, _^_}
 use lib.Dec.{ltb}
@@ -12,13 +12,12 @@ use Rattle.codes.specs.Codes.{IsWidth, per, chars, pick}
 use Rattle.codes.specs.Refusals.{answer, first, ifDone, numberOf}
 use Rattle.codes.specs.declared.refusals.Outcome.{Outcome}
 use Rattle.codes.specs.declared.refusals.Outcome.the-variants.{Done}
-use Rattle.order.specs.Order.{pairOutcome, pairTests, compare, common, placeOf, orderNumber, compared, ordered, isEqual, equalled, placed, found, isSecond, leastBytes, leastNumbers}
+use Rattle.order.specs.Order.{pairOutcome, pairOrder, pairTests, compare, common, placeOf, orderNumber, compared, ordered, isEqual, equalled, placed, found, isSecond, leastBytes, leastNumbers}
 use Rattle.fields.specs.Fields.{viewTests, normalPart}
-use Rattle.order.specs.declared.answers.Order.{Order}
-use Rattle.order.specs.declared.answers.Order.the-variants.{Less, Equal, Greater}
+use Rattle.codes.proofs.CharLaws.{same-length}
 use Rattle.codes.proofs.OutcomeLaws.{passed}
 use Rattle.fields.proofs.ViewLaws.{view-accepted, normal-chars}
-use Rattle.views.proofs.Viewed.{Same, same-length}
+use Rattle.views.proofs.Viewed.{Same}
 
 -- two accepted views are accepted together
 pair-done : (w m ao al n bo bl : ℕ) → first (viewTests w m ao al) ≡ Done → first (viewTests w n bo bl) ≡ Done → first (pairTests w m ao al n bo bl) ≡ Done
@@ -33,17 +32,7 @@ pair-done w m ao al n bo bl e f =
 abbrev pub leastChars : ℕ → List ℕ → ℕ → ℕ → List ℕ → ℕ → ℕ → List ℕ
 leastChars w us ao al bs bo bl = chars w (leastBytes w us ao al bs bo bl) (leastNumbers w us ao al bs bo bl .values .0) (leastNumbers w us ao al bs bo bl .values .1)
 
-abbrev pub second : Order → Bool
-second Less = false
-second Equal = false
-second Greater = true
-
 module _ {w : ℕ} (W : IsWidth w) (us : List ℕ) (ao al : ℕ) (bs : List ℕ) (bo bl : ℕ) (e : first (viewTests w (length us) ao al) ≡ Done) (f : first (viewTests w (length bs) bo bl) ≡ Done) where
-  second-is : (r : Order) → isSecond w us ao al bs bo bl r ≡ second r
-  second-is Less = refl
-  second-is Equal = refl
-  second-is Greater = refl
-
   abbrev numbers : Bool → ℕ × ℕ
   numbers b = pick b (bo % per w, bl) (ao % per w, al)
 
@@ -56,23 +45,26 @@ module _ {w : ℕ} (W : IsWidth w) (us : List ℕ) (ao al : ℕ) (bs : List ℕ)
   chars-chosen false = normal-chars W us ao al (view-accepted w (length us) ao al e)
 
   least-is : (leastNumbers w us ao al bs bo bl .no ≡ 0)
-      × (leastNumbers w us ao al bs bo bl .values .1 ≡ pick (second (compare (chars w us ao al) (chars w bs bo bl))) bl al)
-      × (leastChars w us ao al bs bo bl ≡ pick (second (compare (chars w us ao al) (chars w bs bo bl))) (chars w bs bo bl) (chars w us ao al))
+      × (leastNumbers w us ao al bs bo bl .values .1 ≡ pick (isSecond (pairOrder w us ao al bs bo bl)) bl al)
+      × (leastChars w us ao al bs bo bl ≡ pick (isSecond (pairOrder w us ao al bs bo bl)) (chars w bs bo bl) (chars w us ao al))
   unfolding leastBytes leastNumbers
   least-is =
       let d = pair-done w (length us) ao al (length bs) bo bl e f in
-      let c = second-is (compare (chars w us ao al) (chars w bs bo bl)) in
-      let b : Bool = second (compare (chars w us ao al) (chars w bs bo bl)) in (
+      let b : Bool = isSecond (pairOrder w us ao al bs bo bl) in
+      let part : List ℕ = pick b (normalPart w bs bo bl) (normalPart w us ao al) in (
         ap numberOf d,
-        (λ i. ifDone (d i) (numbers (c i)) (0, 0) .1) ∙ length-chosen b,
-        (λ i. chars w (ifDone (d i) (pick (c i) (normalPart w bs bo bl) (normalPart w us ao al)) []) (ifDone (d i) (numbers (c i)) (0, 0) .0) (ifDone (d i) (numbers (c i)) (0, 0) .1)) ∙ chars-chosen b,
+        ap (λ (q : Outcome). ifDone q (numbers b) (0, 0) .1) d ∙ length-chosen b,
+        ap (λ (q : Outcome). chars w (ifDone q part []) (ifDone q (numbers b) (0, 0) .0) (ifDone q (numbers b) (0, 0) .1)) d ∙ chars-chosen b,
       )
 
 -- two views each: a call's answer by the outcome, the lengths and the characters
 module _ {w : ℕ} {us : List ℕ} {ao al : ℕ} {xs : List ℕ} {xo xl : ℕ} (s : Same w us ao al xs xo xl) {bs : List ℕ} {bo bl : ℕ} {ys : List ℕ} {yo yl : ℕ} (t : Same w bs bo bl ys yo yl) where
   pair-viewed : {A : Type 0} (f : Outcome → List ℕ → List ℕ → A)
       → f (pairOutcome w us ao al bs bo bl) (chars w us ao al) (chars w bs bo bl) ≡ f (pairOutcome w xs xo xl ys yo yl) (chars w xs xo xl) (chars w ys yo yl)
-  pair-viewed f = λ i. f ((pair-done w (length us) ao al (length bs) bo bl (s .left) (t .left) ∙ sym (pair-done w (length xs) xo xl (length ys) yo yl (s .right) (t .right))) i) (s .same i) (t .same i)
+  pair-viewed f =
+      let mine = pair-done w (length us) ao al (length bs) bo bl (s .left) (t .left) in
+      let other = pair-done w (length xs) xo xl (length ys) yo yl (s .right) (t .right) in
+      λ i. f ((mine ∙ sym other) i) (s .same i) (t .same i)
 
   pub compared-viewed : compared w us ao al bs bo bl ≡ compared w xs xo xl ys yo yl
   unfolding compared
@@ -82,26 +74,13 @@ module _ {w : ℕ} {us : List ℕ} {ao al : ℕ} {xs : List ℕ} {xo xl : ℕ} (
   unfolding ordered
   ordered-viewed = pair-viewed (λ q cs ds. answer q (orderNumber (compare cs ds)) (pos 0))
 
-  equal-same : (r : Order) → isEqual w us ao al bs bo bl r ≡ isEqual w xs xo xl ys yo yl r
-  equal-same Less = refl
-  equal-same Equal = refl
-  equal-same Greater = refl
-
   pub equalled-viewed : equalled w us ao al bs bo bl ≡ equalled w xs xo xl ys yo yl
   unfolding equalled
-  equalled-viewed =
-      pair-viewed (λ q cs ds. answer q (isEqual w us ao al bs bo bl (compare cs ds)) false)
-      ∙ ap (λ (b : Bool). answer (pairOutcome w xs xo xl ys yo yl) b false) (equal-same (compare (chars w xs xo xl) (chars w ys yo yl)))
-
-  placed-same : (x : Option ℕ) → placed w us ao al bs bo bl x ≡ placed w xs xo xl ys yo yl x
-  placed-same none = refl
-  placed-same (some k) = refl
+  equalled-viewed = pair-viewed (λ q cs ds. answer q (isEqual (compare cs ds)) false)
 
   pub found-viewed : found w us ao al bs bo bl ≡ found w xs xo xl ys yo yl
   unfolding found
-  found-viewed =
-      pair-viewed (λ q cs ds. answer q (placed w us ao al bs bo bl (placeOf cs ds)) (false, 0))
-      ∙ ap (λ (x : Bool × ℕ). answer (pairOutcome w xs xo xl ys yo yl) x (false, 0)) (placed-same (placeOf (chars w xs xo xl) (chars w ys yo yl)))
+  found-viewed = pair-viewed (λ q cs ds. answer q (placed (placeOf cs ds)) (false, 0))
 
   -- the part that comes first: its number, its length and its characters. Its offset within a byte is its own
   pub least-viewed : IsWidth w
@@ -110,8 +89,9 @@ module _ {w : ℕ} {us : List ℕ} {ao al : ℕ} {xs : List ℕ} {xo xl : ℕ} (
       × (leastChars w us ao al bs bo bl ≡ leastChars w xs xo xl ys yo yl)
   least-viewed W =
       let l = least-is W us ao al bs bo bl (s .left) (t .left) in
-      let r = least-is W xs xo xl ys yo yl (s .right) (t .right) in (
+      let r = least-is W xs xo xl ys yo yl (s .right) (t .right) in
+      let second : isSecond (pairOrder w us ao al bs bo bl) ≡ isSecond (pairOrder w xs xo xl ys yo yl) = λ i. isSecond (compare (s .same i) (t .same i)) in (
         l .0 ∙ sym (r .0),
-        l .1 ∙ (λ i. pick (second (compare (s .same i) (t .same i))) (same-length t i) (same-length s i)) ∙ sym (r .1),
-        l .2 ∙ (λ i. pick (second (compare (s .same i) (t .same i))) (t .same i) (s .same i)) ∙ sym (r .2),
+        l .1 ∙ (λ i. pick (second i) (same-length w bs bo bl ys yo yl (t .same) i) (same-length w us ao al xs xo xl (s .same) i)) ∙ sym (r .1),
+        l .2 ∙ (λ i. pick (second i) (t .same i) (s .same i)) ∙ sym (r .2),
       )

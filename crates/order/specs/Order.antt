@@ -3,7 +3,7 @@
 use mathlib.Core.Bool.{Bool, true, false, _&&_}
 use mathlib.Core.List.{List, [], _∷_}
 use mathlib.Core.Option.{Option, some, none}
-use Prim.Native.Nat.{ℕ, zero, suc, _%_}
+use Prim.Native.Nat.{ℕ, suc, _%_}
 use lib.Dec.{ltb, eqb}
 use lib.IntN.{ℤ, pos, negsuc}
 use lib.ListN.{length}
@@ -19,6 +19,18 @@ abbrev pub orderNumber : Order → ℤ
 orderNumber Less = negsuc 0
 orderNumber Equal = pos 0
 orderNumber Greater = pos 1
+
+-- neither comes first
+abbrev pub isEqual : Order → Bool
+isEqual Less = false
+isEqual Equal = true
+isEqual Greater = false
+
+-- the second comes first; at a tie the first does
+abbrev pub isSecond : Order → Bool
+isSecond Less = false
+isSecond Equal = false
+isSecond Greater = true
 
 -- the first differing character decides, by code; else the shorter is first
 unfoldable pub compare : List ℕ → List ℕ → Order
@@ -39,6 +51,7 @@ stands [] ys = true
 stands (x ∷ xs) [] = false
 stands (x ∷ xs) (y ∷ ys) = eqb x y && stands xs ys
 
+-- a place, one further on
 abbrev pub oneOn : Option ℕ → Option ℕ
 oneOn none = none
 oneOn (some p) = some (suc p)
@@ -47,6 +60,11 @@ oneOn (some p) = some (suc p)
 unfoldable pub placeOf : List ℕ → List ℕ → Option ℕ
 placeOf xs [] = pick (stands xs []) (some 0) none
 placeOf xs (y ∷ ys) = pick (stands xs (y ∷ ys)) (some 0) (oneOn (placeOf xs ys))
+
+-- whether there is a place, and which; 0 where there is none
+abbrev pub placed : Option ℕ → Bool × ℕ
+placed none = (false, 0)
+placed (some p) = (true, p)
 
 -- the refusals of two views, of m and n bytes
 abbrev pub pairTests : ℕ → ℕ → ℕ → ℕ → ℕ → ℕ → ℕ → List Test
@@ -66,30 +84,14 @@ module _ (w : ℕ) (xs : List ℕ) (ao al : ℕ) (bs : List ℕ) (bo bl : ℕ) w
   unfoldable pub ordered : Answer ℤ
   ordered = answer pairOutcome (orderNumber pairOrder) (pos 0)
 
-  -- equal views have equal characters
-  abbrev pub isEqual : Order → Bool
-  isEqual Less = false
-  isEqual Equal = true
-  isEqual Greater = false
-
   unfoldable pub equalled : Answer Bool
   equalled = answer pairOutcome (isEqual pairOrder) false
 
-  -- the pattern is the first view, the text the second: whether it stands there, and the least place, 0 where it is absent
-  abbrev pub placed : Option ℕ → Bool × ℕ
-  placed none = (false, 0)
-  placed (some p) = (true, p)
-
+  -- the pattern is the first view, the text the second
   unfoldable pub found : Answer (Bool × ℕ)
   found = answer pairOutcome (placed (placeOf (chars w xs ao al) (chars w bs bo bl))) (false, 0)
 
-  -- of two views the one that comes first; at a tie, the first
-  abbrev pub isSecond : Order → Bool
-  isSecond Less = false
-  isSecond Equal = false
-  isSecond Greater = true
-
-  -- its normalised part, and that part's offset and length
+  -- the normalised part of the view that comes first, and that part's offset and length
   unfoldable pub leastBytes : List ℕ
   leastBytes = ifDone pairOutcome (pick (isSecond pairOrder) (normalPart w bs bo bl) (normalPart w xs ao al)) []
 

@@ -10,15 +10,14 @@ use lib.ListN.{length, length-map}
 use lib.Pow.{pow-pos}
 use Rattle.codes.specs.Codes.{IsWidth, up, code}
 use Rattle.codes.specs.Refusals.{ifDone}
-use Rattle.codes.specs.declared.refusals.Outcome.{Outcome}
 use Rattle.codes.specs.declared.refusals.Outcome.the-variants.{Done, Refused}
 use Rattle.codes.specs.declared.refusals.Refusal.{Refusal}
 use Rattle.codes.proofs.CharLaws.{length-pack}
 use Rattle.codes.proofs.WidthLaws.{up-le, up-mono}
 use Rattle.stores.specs.History.{Store, step, run, charsAfter, history}
-use Rattle.stores.specs.Stores.{Call, clear, pushAscii, pushSeq, overwrite, cut, tests, outcome, Edit, still, deed, edit, bufferAfter, lengthAfter, span, oldLength, answered, after}
+use Rattle.stores.specs.Stores.{Call, clear, pushAscii, pushSeq, overwrite, cut, tests, outcome, still, deed, edit, bufferAfter, lengthAfter, span, oldLength, answered, after}
 use Rattle.runs.specs.Runs.{written, seqChars}
-use Rattle.stores.proofs.CallLaws.{Passed, done-passed}
+use Rattle.stores.proofs.CallLaws.{Passed, done-passed, by-outcome}
 use Rattle.stores.proofs.HoldLaws.{Holds, Good, good-still, good-from, good-over, from-holds}
 use Rattle.runs.proofs.SeqLaws.{seq-lt, seq-end}
 use Rattle.runs.proofs.SpliceLaws.{codes-lt}
@@ -61,13 +60,10 @@ module _ {w : ℕ} (W : IsWidth w) where
         let r : n ≤ len = ltb-false _ _ (p .1 .1 .0) in
         good-from W bs h H n [] (λ i. pow-pos w) r (le-trans (add-le-add (up-mono W (n + 0) len (omega arith)) (le-refl 48)) (H .room))
 
-    by-outcome : (o : Outcome) (e : Edit) → (Done ≡ o → Good w bs h e) → Good w bs h (ifDone o e still)
-    by-outcome Done e g = g refl
-    by-outcome (Refused r) e g = good-still W bs h H
-
     pub step-good : (c : Call) → Good w bs h (edit w m len c)
     unfolding outcome
-    step-good c = by-outcome (outcome w m len c) (deed w len c) (λ e. deed-good c (done-passed (tests w m len c) e))
+    step-good c =
+        by-outcome (λ o. Good w bs h (ifDone o (deed w len c) still)) (outcome w m len c) (λ e. deed-good c (done-passed (tests w m len c) e)) (λ r e. good-still W bs h H)
 
     -- no clear of such a store is refused
     old-length : (c : Call) (r : Refusal) → Refused r ≡ outcome w m len c → oldLength len c ≡ len
@@ -77,14 +73,10 @@ module _ {w : ℕ} (W : IsWidth w) where
     old-length (overwrite at ls) r e = refl
     old-length (cut n) r e = refl
 
-    length-by : (c : Call) (o : Outcome) → ((r : Refusal) → Refused r ≡ o → oldLength len c ≡ len)
-        → ifDone o (span w len c) (0, 0, oldLength len c) .2 ≡ lengthAfter len (ifDone o (deed w len c) still)
-    length-by c Done g = span-length len c
-    length-by c (Refused r) g = g r refl
-
     pub step-length : (c : Call) → answered w m len c .values .2 ≡ lengthAfter len (edit w m len c)
     unfolding answered
-    step-length c = length-by c (outcome w m len c) (old-length c)
+    step-length c =
+        by-outcome (λ o. ifDone o (span w len c) (0, 0, oldLength len c) .2 ≡ lengthAfter len (ifDone o (deed w len c) still)) (outcome w m len c) (λ e. span-length len c) (old-length c)
 
   -- a store and the characters that it holds
   pub record Kept (s : Store) (h : List ℕ) (m : ℕ) : Type 0 where
@@ -96,10 +88,12 @@ module _ {w : ℕ} (W : IsWidth w) where
       → Kept (step w s c) (charsAfter h (edit w (length (s .bytes)) n c)) (length (s .bytes))
   unfolding after
   step-kept s h c n p q H =
-      subst (λ (x : ℕ). Kept (record { bytes = bufferAfter w (s .bytes) (edit w (length (s .bytes)) x c); len = answered w (length (s .bytes)) x c .values .2 }) (charsAfter h (edit w (length (s .bytes)) n c)) (length (s .bytes))) (sym q)
-      (subst (λ (x : ℕ). Kept (record { bytes = bufferAfter w (s .bytes) (edit w (length (s .bytes)) x c); len = answered w (length (s .bytes)) x c .values .2 }) (charsAfter h (edit w (length (s .bytes)) x c)) (length (s .bytes))) (sym p)
-      (let g : Good w (s .bytes) h (edit w (length (s .bytes)) (length h) c) = step-good (s .bytes) h H c in
-      record { holds = g .holds; lengths = step-length (s .bytes) h H c ∙ g .lengths; size = g .size }))
+      let m : ℕ = length (s .bytes) in
+      let left : ℕ → Store = λ x. record { bytes = bufferAfter w (s .bytes) (edit w m x c); len = answered w m x c .values .2 } in
+      let g : Good w (s .bytes) h (edit w m (length h) c) = step-good (s .bytes) h H c in
+      subst (λ (x : ℕ). Kept (left x) (charsAfter h (edit w m n c)) m) (sym q)
+      (subst (λ (x : ℕ). Kept (left x) (charsAfter h (edit w m x c)) m) (sym p)
+      (record { holds = g .holds; lengths = step-length (s .bytes) h H c ∙ g .lengths; size = g .size }))
 
   pub run-kept : (cs : List Call) (s : Store) (h : List ℕ) (m : ℕ) → Kept s h m → Kept (run w s cs) (history w m h cs) m
   run-kept [] s h m K = K

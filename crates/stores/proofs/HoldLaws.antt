@@ -80,7 +80,9 @@ module _ {w : ℕ} (W : IsWidth w) (bs h : List ℕ) (at : ℕ) (cs : List ℕ) 
             let g : getD (take at h ++ tl) i 0 ≡ getD tl (i - at) 0 = getD-right (take at h) tl i (omega arith) ∙ ap (λ (x : ℕ). getD tl (i - x) 0) t in
             below-or i e
             (λ b. splice-new (charAt w bs) at cs e i a b ∙ sym (g ∙ List·getD-append cs (drop e h) 0 (i - at) (omega arith)))
-            (λ b. splice-far (charAt w bs) at cs e i b ∙ H .same i l′ ∙ sym (g ∙ getD-right cs (drop e h) (i - at) (omega arith) ∙ getD-drop e h (i - at - length cs) 0 ∙ ap (λ (x : ℕ). getD h x 0) (omega arith))));
+            (λ b.
+            let far = getD-right cs (drop e h) (i - at) (omega arith) ∙ getD-drop e h (i - at - length cs) 0 ∙ ap (λ (x : ℕ). getD h x 0) (omega arith) in
+            splice-far (charAt w bs) at cs e i b ∙ H .same i l′ ∙ sym (g ∙ far)));
       }
 
 -- the store after an edit holds the characters after it, and its buffer is as long as it was
@@ -104,11 +106,13 @@ module _ {w : ℕ} (W : IsWidth w) (bs h : List ℕ) (H : Holds w bs h) where
 
     pub good-over : at + length cs ≤ length h → Good w bs h (over at cs)
     unfolding overwritten
-    good-over k = record {
-      holds = over-holds W bs h at cs fit k H;
-      lengths = sym (length-append (take at h) (cs ++ drop (at + length cs) h) ∙ omega (arith, length-take-le at h (omega arith), length-append cs (drop (at + length cs) h), length-drop (at + length cs) h));
-      size = length-pack w (length bs) _;
-    }
+    good-over k =
+        let rest : List ℕ = drop (at + length cs) h in
+        record {
+          holds = over-holds W bs h at cs fit k H;
+          lengths = sym (length-append (take at h) (cs ++ rest) ∙ omega (arith, length-take-le at h (omega arith), length-append cs rest, length-drop (at + length cs) h));
+          size = length-pack w (length bs) _;
+        }
 
 -- what a buffer holds, byte for byte
 module _ {w : ℕ} (W : IsWidth w) (bs h : List ℕ) (H : Holds w bs h) where

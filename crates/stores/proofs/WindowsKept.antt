@@ -9,20 +9,16 @@ use native.Mathlib.Nat.{zero-add}
 use native.Mathlib.Omega.{arith}
 use lib.ListN.{length, getD, take, drop, length-drop}
 use lib.Seq.{ext-getD, getD-take, getD-drop, length-take-le}
-use Rattle.codes.specs.Codes.{charAt, chars}
+use Rattle.codes.specs.Codes.{charAt}
 use Rattle.codes.specs.declared.refusals.Outcome.the-variants.{Done}
 use Rattle.codes.proofs.CharLaws.{length-chars, getD-chars}
 use Rattle.codes.proofs.WidthLaws.{width-1}
 use Rattle.stores.specs.Changes.{Overwrites}
-use Rattle.stores.specs.History.{Store, step, run, history}
+use Rattle.stores.specs.History.{Store, step, run, history, flagsOf}
 use Rattle.stores.specs.Stores.{Call, clear, outcome}
 use Rattle.codes.specs.Windows.{anySet, window}
 use Rattle.stores.proofs.KeptLaws.{char-kept}
 use Rattle.stores.proofs.History as Histories
-
--- the flags of a store
-abbrev pub flagsOf : Store → List ℕ
-flagsOf s = chars 1 (s .bytes) 0 (s .len)
 
 -- windows of lists that agree there
 window-same : (f g : List ℕ) (p k : ℕ) → p + k ≤ length f → p + k ≤ length g → ((i : ℕ) → p ≤ i → i < p + k → getD f i 0 ≡ getD g i 0) → window f p k ≡ window g p k

@@ -1,4 +1,5 @@
 pub mod OpenLaws
+pub mod OutcomeLaws
 pub mod FillLaws
 pub mod Stepping
 pub mod Viewed

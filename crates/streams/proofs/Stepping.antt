@@ -8,7 +8,7 @@ use lib.ListN.{take, drop, replicate, length-append, length-drop, List·getD-app
 use lib.Seq.{ext-getD, getD-take, getD-drop, length-take-le}
 use borrow.Author.Tests.{lt-leb}
 use Rattle.codes.specs.Codes.{tab, chars}
-use Rattle.codes.specs.Refusals.{ifDone}
+use Rattle.codes.specs.Refusals.{Test, ifDone}
 use Rattle.codes.specs.declared.refusals.Outcome.{Outcome}
 use Rattle.codes.specs.declared.refusals.Outcome.the-variants.{Done}
 use Rattle.codes.proofs.TabLaws.{length-tab, getD-tab, tab-ext}
@@ -42,10 +42,11 @@ module _ (w : ℕ) (bs : List ℕ) (o len c f d e : ℕ) (ms : List ℕ) (done :
   pub step-accepted : stepOutcome w bs o len c f d e j ≡ Done
   unfolding stepOutcome fillOutcome
   step-accepted =
-      sym (none-of-one (streamTests w bs o len c f d e) (first-both (streamTests w bs o len c f d e) (roomTests (8 * steps w len c f) ms) done .0) (badStep (steps w len c f) j) (lt-leb (steps w len c f) j h))
+      let ts : List Test = streamTests w bs o len c f d e in
+      let n : ℕ = steps w len c f in
+      sym (none-of-one ts (first-both ts (roomTests (8 * n) ms) done .0) (badStep n j) (lt-leb n j h))
 
-  pub stepping : (g : ℕ) (out : List ℕ)
-      → stepLanes w bs o len c f g j (stepOutcome w bs o len c f d e j) ≡ take 8 (drop (8 * j) (fillAfter w bs o len c f g (fillOutcome w bs o len c f d e ms) out))
+  pub stepping : (g : ℕ) (out : List ℕ) → stepLanes w bs o len c f d e j g ≡ take 8 (drop (8 * j) (fillAfter w bs o len c f d e ms g out))
   unfolding stepLanes fillAfter lanes filled
   stepping g out =
       ap (λ (u : Outcome). ifDone u (lanes cs n g j) (replicate 8 0)) step-accepted

@@ -1,4 +1,4 @@
--- Lane streams: what each call answers and writes, on a view of bytes bs, offset o and length len.
+-- Lane streams: what each call answers and writes.
 -- Assumes nothing.
 use mathlib.Core.List.{List, [], _∷_, _++_}
 use Prim.Native.Nat.{ℕ, _*_}
@@ -19,25 +19,31 @@ abbrev pub roomTests : ℕ → List ℕ → List Test
 roomTests entries [] = []
 roomTests entries (m ∷ ms) = noRoom m entries ∷ roomTests entries ms
 
--- filling, into buffers of these lengths; the steps written, and the padding
-unfoldable pub fillOutcome : ℕ → List ℕ → ℕ → ℕ → ℕ → ℕ → ℕ → ℕ → List ℕ → Outcome
-fillOutcome w bs o len c f d e ms = first (streamTests w bs o len c f d e ++ roomTests (8 * steps w len c f) ms)
-
-unfoldable pub fillAnswer : ℕ → List ℕ → ℕ → ℕ → ℕ → ℕ → ℕ → ℕ → List ℕ → Answer (ℕ × ℕ)
-unfolding fillOutcome
-fillAnswer w bs o len c f d e ms = answer (fillOutcome w bs o len c f d e ms) (steps w len c f, padding w len c f) (0, 0)
-
--- what stands in the buffer of one delay after it
-unfoldable pub fillAfter : ℕ → List ℕ → ℕ → ℕ → ℕ → ℕ → ℕ → Outcome → List ℕ → List ℕ
-fillAfter w bs o len c f d outcome out = ifDone outcome (filled (chars w bs o len) (lane w len c f) d (steps w len c f) out) out
-
 -- a step number at or past the steps
 abbrev pub badStep : ℕ → ℕ → Test
 badStep n j = (leb n j, BadStream)
 
--- stepping: the step's lanes, zeros where it is refused
-unfoldable pub stepOutcome : ℕ → List ℕ → ℕ → ℕ → ℕ → ℕ → ℕ → ℕ → ℕ → Outcome
-stepOutcome w bs o len c f d e j = first (streamTests w bs o len c f d e ++ badStep (steps w len c f) j ∷ [])
+-- a stream over a view of bytes bs, offset o and length len, with context c, factor f, and delays d and e
+module _ (w : ℕ) (bs : List ℕ) (o len c f d e : ℕ) where
+  -- filling, into buffers of these lengths
+  unfoldable pub fillOutcome : List ℕ → Outcome
+  fillOutcome ms = first (streamTests w bs o len c f d e ++ roomTests (8 * steps w len c f) ms)
 
-unfoldable pub stepLanes : ℕ → List ℕ → ℕ → ℕ → ℕ → ℕ → ℕ → ℕ → Outcome → List ℕ
-stepLanes w bs o len c f d j outcome = ifDone outcome (lanes (chars w bs o len) (lane w len c f) d j) (replicate 8 0)
+  -- the steps written, and the padding
+  unfoldable pub fillAnswer : List ℕ → Answer (ℕ × ℕ)
+  unfolding fillOutcome
+  fillAnswer ms = answer (fillOutcome ms) (steps w len c f, padding w len c f) (0, 0)
+
+  -- what stands in the buffer of delay g after it
+  unfoldable pub fillAfter : List ℕ → ℕ → List ℕ → List ℕ
+  unfolding fillOutcome
+  fillAfter ms g out = ifDone (fillOutcome ms) (filled (chars w bs o len) (lane w len c f) g (steps w len c f) out) out
+
+  -- stepping, to step j
+  unfoldable pub stepOutcome : ℕ → Outcome
+  stepOutcome j = first (streamTests w bs o len c f d e ++ badStep (steps w len c f) j ∷ [])
+
+  -- the lanes of step j with delay g; zeros where it is refused
+  unfoldable pub stepLanes : ℕ → ℕ → List ℕ
+  unfolding stepOutcome
+  stepLanes j g = ifDone (stepOutcome j) (lanes (chars w bs o len) (lane w len c f) g j) (replicate 8 0)

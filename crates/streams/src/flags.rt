@@ -12,7 +12,7 @@ ghost use mathlib.Core.List.{[], _∷_};
 ghost use mathlib.Core.Path.{_≡_};
 ghost use lib.ListN.{length};
 ghost use Rattle.streams.specs.Answers.{shapeSays, filledSays};
-ghost use Rattle.streams.specs.Streams.{shaped, fillOutcome, fillAnswer, fillAfter, stepOutcome, stepLanes};
+ghost use Rattle.streams.specs.Streams.{shaped, fillAnswer, fillAfter, stepOutcome, stepLanes};
 
 // Lane length, padding and steps.
 pub fn shape(len: Chars, context: Chars, factor: usize) -> Shape
@@ -31,7 +31,8 @@ pub fn fill(
     out: &mut [u32],
 ) -> Filled
     ensures answer { λ r. ⌜ filledSays r ≡ fillAnswer 1 (now (bytes .entry)) (offset .0) (len .0) (context .0) factor 0 0 (length (now (out .entry)) ∷ []) ⌝ }
-    ensures out { λ _. ⌜ now (out .exit) ≡ fillAfter 1 (now (bytes .entry)) (offset .0) (len .0) (context .0) factor 0 (fillOutcome 1 (now (bytes .entry)) (offset .0) (len .0) (context .0) factor 0 0 (length (now (out .entry)) ∷ [])) (now (out .entry)) ⌝ }
+    ensures out { λ _. ⌜ now (out .exit)
+        ≡ fillAfter 1 (now (bytes .entry)) (offset .0) (len .0) (context .0) factor 0 0 (length (now (out .entry)) ∷ []) 0 (now (out .entry)) ⌝ }
 {
     fills::fill(1, bytes, offset, len, context, factor, out)
 }
@@ -47,9 +48,12 @@ pub fn fill_delayed(
     out: &mut [u32],
     delayed: &mut [u32],
 ) -> Filled
-    ensures answer { λ r. ⌜ filledSays r ≡ fillAnswer 1 (now (bytes .entry)) (offset .0) (len .0) (context .0) factor (delay .0) (delay .0) (length (now (out .entry)) ∷ length (now (delayed .entry)) ∷ []) ⌝ }
-    ensures out { λ _. ⌜ now (out .exit) ≡ fillAfter 1 (now (bytes .entry)) (offset .0) (len .0) (context .0) factor 0 (fillOutcome 1 (now (bytes .entry)) (offset .0) (len .0) (context .0) factor (delay .0) (delay .0) (length (now (out .entry)) ∷ length (now (delayed .entry)) ∷ [])) (now (out .entry)) ⌝ }
-    ensures delayed { λ _. ⌜ now (delayed .exit) ≡ fillAfter 1 (now (bytes .entry)) (offset .0) (len .0) (context .0) factor (delay .0) (fillOutcome 1 (now (bytes .entry)) (offset .0) (len .0) (context .0) factor (delay .0) (delay .0) (length (now (out .entry)) ∷ length (now (delayed .entry)) ∷ [])) (now (delayed .entry)) ⌝ }
+    ensures answer { λ r. ⌜ filledSays r ≡ fillAnswer 1 (now (bytes .entry)) (offset .0) (len .0) (context .0) factor (delay .0) (delay .0)
+        (length (now (out .entry)) ∷ length (now (delayed .entry)) ∷ []) ⌝ }
+    ensures out { λ _. ⌜ now (out .exit) ≡ fillAfter 1 (now (bytes .entry)) (offset .0) (len .0) (context .0) factor (delay .0) (delay .0)
+        (length (now (out .entry)) ∷ length (now (delayed .entry)) ∷ []) 0 (now (out .entry)) ⌝ }
+    ensures delayed { λ _. ⌜ now (delayed .exit) ≡ fillAfter 1 (now (bytes .entry)) (offset .0) (len .0) (context .0) factor (delay .0) (delay .0)
+        (length (now (out .entry)) ∷ length (now (delayed .entry)) ∷ []) (delay .0) (now (delayed .entry)) ⌝ }
 {
     fills::fill_delayed(1, bytes, offset, len, context, factor, delay, out, delayed)
 }
@@ -67,10 +71,14 @@ pub fn fill_delayed_2(
     out1: &mut [u32],
     out2: &mut [u32],
 ) -> Filled
-    ensures answer { λ r. ⌜ filledSays r ≡ fillAnswer 1 (now (bytes .entry)) (offset .0) (len .0) (context .0) factor (first .0) (second .0) (length (now (out .entry)) ∷ length (now (out1 .entry)) ∷ length (now (out2 .entry)) ∷ []) ⌝ }
-    ensures out { λ _. ⌜ now (out .exit) ≡ fillAfter 1 (now (bytes .entry)) (offset .0) (len .0) (context .0) factor 0 (fillOutcome 1 (now (bytes .entry)) (offset .0) (len .0) (context .0) factor (first .0) (second .0) (length (now (out .entry)) ∷ length (now (out1 .entry)) ∷ length (now (out2 .entry)) ∷ [])) (now (out .entry)) ⌝ }
-    ensures out1 { λ _. ⌜ now (out1 .exit) ≡ fillAfter 1 (now (bytes .entry)) (offset .0) (len .0) (context .0) factor (first .0) (fillOutcome 1 (now (bytes .entry)) (offset .0) (len .0) (context .0) factor (first .0) (second .0) (length (now (out .entry)) ∷ length (now (out1 .entry)) ∷ length (now (out2 .entry)) ∷ [])) (now (out1 .entry)) ⌝ }
-    ensures out2 { λ _. ⌜ now (out2 .exit) ≡ fillAfter 1 (now (bytes .entry)) (offset .0) (len .0) (context .0) factor (second .0) (fillOutcome 1 (now (bytes .entry)) (offset .0) (len .0) (context .0) factor (first .0) (second .0) (length (now (out .entry)) ∷ length (now (out1 .entry)) ∷ length (now (out2 .entry)) ∷ [])) (now (out2 .entry)) ⌝ }
+    ensures answer { λ r. ⌜ filledSays r ≡ fillAnswer 1 (now (bytes .entry)) (offset .0) (len .0) (context .0) factor (first .0) (second .0)
+        (length (now (out .entry)) ∷ length (now (out1 .entry)) ∷ length (now (out2 .entry)) ∷ []) ⌝ }
+    ensures out { λ _. ⌜ now (out .exit) ≡ fillAfter 1 (now (bytes .entry)) (offset .0) (len .0) (context .0) factor (first .0) (second .0)
+        (length (now (out .entry)) ∷ length (now (out1 .entry)) ∷ length (now (out2 .entry)) ∷ []) 0 (now (out .entry)) ⌝ }
+    ensures out1 { λ _. ⌜ now (out1 .exit) ≡ fillAfter 1 (now (bytes .entry)) (offset .0) (len .0) (context .0) factor (first .0) (second .0)
+        (length (now (out .entry)) ∷ length (now (out1 .entry)) ∷ length (now (out2 .entry)) ∷ []) (first .0) (now (out1 .entry)) ⌝ }
+    ensures out2 { λ _. ⌜ now (out2 .exit) ≡ fillAfter 1 (now (bytes .entry)) (offset .0) (len .0) (context .0) factor (first .0) (second .0)
+        (length (now (out .entry)) ∷ length (now (out1 .entry)) ∷ length (now (out2 .entry)) ∷ []) (second .0) (now (out2 .entry)) ⌝ }
 {
     fills::fill_delayed_2(
         1,
@@ -97,7 +105,7 @@ pub fn step(
     j: usize,
 ) -> Stepped
     ensures outcome { λ r. ⌜ r .outcome ≡ stepOutcome 1 (now (bytes .entry)) (offset .0) (len .0) (context .0) factor 0 0 j ⌝ }
-    ensures lanes { λ r. ⌜ r .lanes ≡ stepLanes 1 (now (bytes .entry)) (offset .0) (len .0) (context .0) factor 0 j (r .outcome) ⌝ }
+    ensures lanes { λ r. ⌜ r .lanes ≡ stepLanes 1 (now (bytes .entry)) (offset .0) (len .0) (context .0) factor 0 0 j 0 ⌝ }
 {
     steps::step(1, bytes, offset, len, context, factor, j)
 }
@@ -113,8 +121,8 @@ pub fn step_delayed(
     j: usize,
 ) -> SteppedOnce
     ensures outcome { λ r. ⌜ r .outcome ≡ stepOutcome 1 (now (bytes .entry)) (offset .0) (len .0) (context .0) factor (delay .0) (delay .0) j ⌝ }
-    ensures lanes { λ r. ⌜ r .lanes ≡ stepLanes 1 (now (bytes .entry)) (offset .0) (len .0) (context .0) factor 0 j (r .outcome) ⌝ }
-    ensures delayed { λ r. ⌜ r .delayed ≡ stepLanes 1 (now (bytes .entry)) (offset .0) (len .0) (context .0) factor (delay .0) j (r .outcome) ⌝ }
+    ensures lanes { λ r. ⌜ r .lanes ≡ stepLanes 1 (now (bytes .entry)) (offset .0) (len .0) (context .0) factor (delay .0) (delay .0) j 0 ⌝ }
+    ensures delayed { λ r. ⌜ r .delayed ≡ stepLanes 1 (now (bytes .entry)) (offset .0) (len .0) (context .0) factor (delay .0) (delay .0) j (delay .0) ⌝ }
 {
     steps::step_delayed(1, bytes, offset, len, context, factor, delay, j)
 }
@@ -131,9 +139,9 @@ pub fn step_delayed_2(
     j: usize,
 ) -> SteppedTwice
     ensures outcome { λ r. ⌜ r .outcome ≡ stepOutcome 1 (now (bytes .entry)) (offset .0) (len .0) (context .0) factor (first .0) (second .0) j ⌝ }
-    ensures lanes { λ r. ⌜ r .lanes ≡ stepLanes 1 (now (bytes .entry)) (offset .0) (len .0) (context .0) factor 0 j (r .outcome) ⌝ }
-    ensures first { λ r. ⌜ r .first ≡ stepLanes 1 (now (bytes .entry)) (offset .0) (len .0) (context .0) factor (first .0) j (r .outcome) ⌝ }
-    ensures second { λ r. ⌜ r .second ≡ stepLanes 1 (now (bytes .entry)) (offset .0) (len .0) (context .0) factor (second .0) j (r .outcome) ⌝ }
+    ensures lanes { λ r. ⌜ r .lanes ≡ stepLanes 1 (now (bytes .entry)) (offset .0) (len .0) (context .0) factor (first .0) (second .0) j 0 ⌝ }
+    ensures first { λ r. ⌜ r .first ≡ stepLanes 1 (now (bytes .entry)) (offset .0) (len .0) (context .0) factor (first .0) (second .0) j (first .0) ⌝ }
+    ensures second { λ r. ⌜ r .second ≡ stepLanes 1 (now (bytes .entry)) (offset .0) (len .0) (context .0) factor (first .0) (second .0) j (second .0) ⌝ }
 {
     steps::step_delayed_2(1, bytes, offset, len, context, factor, first, second, j)
 }

@@ -1,4 +1,5 @@
--- What a walk over a view has of it: the types and machine values of a view, a slice, numbers and a part; what a view lends to a callee that takes a width, its fields in their order, and other parameters; and how a part is made of a slice and numbers.
+-- What a walk over a view has of it: the types and machine values of a view, a slice, numbers and a part; what a view lends to a
+-- callee that takes a width, its fields in their order, and other parameters; and how a part is made of a slice and numbers.
 -- Assumes nothing.
 use mathlib.Core.Path.{_≡_, refl}
 use mathlib.Core.List.{List, [], _∷_}
@@ -12,7 +13,7 @@ use base.Logic.{ent, sep}
 use base.Fml.{Lft, Fml}
 use prog.Wp.{Heap}
 use ghost.Atoms.{Atoms, sem}
-use types.Kit.{Given, ‵, given, _$_, _∵_, !, qed, by, move, drop, use1, learn, fsplit, fjoin, done}
+use types.Kit.{Given, Item, ‵, given, _$_, _∵_, !, qed, by, move, drop, use1, learn, fsplit, fjoin, done}
 use contract.Lifetimes.{Lfts}
 use denote.RattleType.{RattleType, Denots, Valss, owns}
 use denote.Laws.{Copy, Is}
@@ -25,6 +26,7 @@ use denote.Steps.{owned, nothing}
 use denote.Struct.Declared.{Declared}
 use denote.Struct.Laws as LL
 use denote.Struct.Rest.{all-own, own-open, own-shut}
+use denote.Struct.Values.{Values}
 use Rattle.codes.proofs.units.Chars as C
 use Rattle.codes.proofs.units.Chars.Laws as C′
 use Rattle.fields.specs.declared.inner.parts.Numbers.{Numbers}
@@ -96,6 +98,10 @@ module _ (κ : Lft) (r : Numbers) (s : RefT (List ℕ)) (is : Is Nm r (nv r ∷ 
   pub is-part : Is (Pt κ) (part-of r s) (pv κ r s ∷ [])
   is-part = let fields = LL.owed N.the-type N′.the-laws r _ is in LL.owes (Dp κ) (Lp κ) (part-of r s) (is-view, (fields .1 .1 .0, tt))
 
+-- what the fields of a struct own, once it is opened
+abbrev pub fields : {M : Type 1} {𝓤 : URA M} (D : Declared) → LL.Laws D → Values (D .parts) → Val → Item 𝓤
+fields D L xs v = given (v ∷ [] ≡ v ∷ []) (‵ (all-own (D .parts) L xs))
+
 module _ {M : Type 1} (𝓤 : URA M) (H : Heap 𝓤) (A : Atoms 𝓤) (W : Given 𝓤 H A) where
   pub ch-copy : Copy 𝓤 H A Ch
   ch-copy = LL.copy C.the-type C′.the-copy 𝓤 H A W
@@ -113,8 +119,9 @@ module _ {M : Type 1} (𝓤 : URA M) (H : Heap 𝓤) (A : Atoms 𝓤) (W : Given
 
       pub lends : ent 𝓤 (sem 𝓤 H A whole) (sem 𝓤 H A apart)
       lends =
+          let xs : Values (Dv (κ, tt) .parts) = (d .bytes, (d .offset, (d .len, tt))) in
           qed W (‵ whole ∷ []) ∵ fsplit ! $
-          use1 W (given (T′.lowered d ∷ [] ≡ T′.lowered d ∷ []) (‵ (all-own (Dv (κ, tt) .parts) (Lv (κ, tt)) (d .bytes, (d .offset, (d .len, tt)))))) (own-open 𝓤 H A W (Dv (κ, tt)) (Lv (κ, tt)) (d .bytes, (d .offset, (d .len, tt))) (T′.lowered d)) $ learn ! (λ _.
+          use1 W (fields (Dv (κ, tt)) (Lv (κ, tt)) xs (T′.lowered d)) (own-open 𝓤 H A W (Dv (κ, tt)) (Lv (κ, tt)) xs (T′.lowered d)) $ learn ! (λ _.
           fsplit ! $ move ! (1 ∷ []) $ fsplit ! $ move ! (1 ∷ []) $ fsplit ! $
           -- [len; true; offset; bytes; the others]
           move ! (0 ∷ 4 ∷ []) $ fjoin ! $ move ! (2 ∷ 0 ∷ []) $ fjoin ! $ move ! (2 ∷ 0 ∷ []) $ fjoin ! $ move ! (1 ∷ []) $ drop ! $
@@ -123,8 +130,9 @@ module _ {M : Type 1} (𝓤 : URA M) (H : Heap 𝓤) (A : Atoms 𝓤) (W : Given
     -- what a slice and numbers own is what the part owns
     pub shut : (r : Numbers) (s : RefT (List ℕ)) → ent 𝓤 (sep 𝓤 (sem 𝓤 H A (Sl κ .own s (sv s ∷ []))) (sem 𝓤 H A (Nm .own r (nv r ∷ [])))) (sem 𝓤 H A (Pt κ .own (part-of r s) (pv κ r s ∷ [])))
     shut r s =
+        let xs : Values (N.the-type .parts) = (r .offset, (r .len, (r .outcome, tt))) in
         qed W (‵ (Sl κ .own s (sv s ∷ [])) ∷ ‵ (Nm .own r (nv r ∷ [])) ∷ []) ∵
-        move ! (1 ∷ []) $ use1 W (given (nv r ∷ [] ≡ nv r ∷ []) (‵ (all-own (N.the-type .parts) N′.the-laws (r .offset, (r .len, (r .outcome, tt)))))) (own-open 𝓤 H A W N.the-type N′.the-laws (r .offset, (r .len, (r .outcome, tt))) (nv r)) $ learn ! (λ _.
+        move ! (1 ∷ []) $ use1 W (fields N.the-type N′.the-laws xs (nv r)) (own-open 𝓤 H A W N.the-type N′.the-laws xs (nv r)) $ learn ! (λ _.
         fsplit ! $ move ! (1 ∷ []) $ fsplit ! $
         -- [len; the outcome, with true; offset; the slice]
         nothing ! $ move ! (1 ∷ 0 ∷ []) $ fjoin ! $ move ! (2 ∷ 0 ∷ []) $ fjoin ! $ move ! (2 ∷ 0 ∷ []) $ fjoin ! $
@@ -134,6 +142,7 @@ module _ {M : Type 1} (𝓤 : URA M) (H : Heap 𝓤) (A : Atoms 𝓤) (W : Given
     -- a part owns its view
     pub part-view : (p : Part) → ent 𝓤 (sem 𝓤 H A (Pt κ .own p (part-val κ p ∷ []))) (sem 𝓤 H A (Vw (κ, tt) .own (p .view) (T′.lowered (p .view) ∷ [])))
     part-view p =
+        let xs : Values (Dp κ .parts) = (p .view, (p .outcome, tt)) in
         qed W (‵ (Pt κ .own p (part-val κ p ∷ [])) ∷ []) ∵
-        use1 W (given (part-val κ p ∷ [] ≡ part-val κ p ∷ []) (‵ (all-own (Dp κ .parts) (Lp κ) (p .view, (p .outcome, tt))))) (own-open 𝓤 H A W (Dp κ) (Lp κ) (p .view, (p .outcome, tt)) (part-val κ p)) $ learn ! (λ _.
+        use1 W (fields (Dp κ) (Lp κ) xs (part-val κ p)) (own-open 𝓤 H A W (Dp κ) (Lp κ) xs (part-val κ p)) $ learn ! (λ _.
         fsplit ! $ move ! (1 ∷ []) $ drop ! $ done !)

@@ -11,12 +11,13 @@ use prog.Routine.{Routine}
 use prog.Wp.{Heap}
 use ghost.Atoms.{Atoms, sem}
 use contract.Monad.{Fun, fact}
-use types.Kit.{Given, ‵, raw, _⊛_, given, ⋆, _$_, _∵_, !, qed, move, drop, use1, use2, split, join, learn, fsplit, fjoin, frame, done}
+use types.Kit.{Given, ‵, raw, _⊛_, ⋆, _$_, _∵_, !, qed, move, drop, use1, use2, split, join, learn, fsplit, fjoin, frame, done}
 use denote.RattleType.{Denots, owns}
 use denote.Ref.{RefT, now}
 use denote.Enum.Laws as EL
 use denote.Struct.Laws as LL
-use denote.Struct.Rest.{all-own, own-open}
+use denote.Struct.Rest.{own-open}
+use denote.Struct.Values.{Values}
 use denote.Triple.Statement.{Contract}
 use denote.Triple.Entry.{Vals}
 use denote.Triple.Spec.{tripleOf}
@@ -28,7 +29,7 @@ use Rattle.fields.specs.declared.inner.parts.Numbers.{Numbers}
 use Rattle.fields.proofs.inner.parts.Numbers as N
 use Rattle.fields.proofs.inner.parts.Numbers.Laws as N′
 use Rattle.fields.proofs.inner.parts.kept as kept
-use Rattle.views.proofs.Held.{Sl, sv, Nm, nv}
+use Rattle.views.proofs.Held.{Sl, sv, Nm, nv, fields}
 
 module _ {M : Type 1} (𝓤 : URA M) (H : Heap 𝓤) (A : Atoms 𝓤) (mem : Memory → SProp 𝓤) (run : Routine → Fun 𝓤) where
   abbrev pub KeptC : Contract 𝓤
@@ -54,12 +55,14 @@ module _ {M : Type 1} (𝓤 : URA M) (H : Heap 𝓤) (A : Atoms 𝓤) (mem : Mem
     pub kept-goes : Given 𝓤 H A → (Own : Fml) → ent 𝓤 (sem 𝓤 H A Own) (sep 𝓤 (sem 𝓤 H A (Sl κ .own x (sv x ∷ []))) (sem 𝓤 H A Own))
         → ent 𝓤 (⋆ 𝓤 H A (‵ (Nm .own r (nv r ∷ [])) ∷ (‵ (flft κ q) ⊛ ‵ ftrue) ∷ ‵ Own ∷ [])) (sep 𝓤 (KeptC .pre kept-to) (sep 𝓤 (sem 𝓤 H A (Nm .own r (nv r ∷ []))) (sem 𝓤 H A Own)))
     kept-goes W Own lend =
+        let xs : Values (N.the-type .parts) = (r .offset, (r .len, (r .outcome, tt))) in
         qed W (‵ (Nm .own r (nv r ∷ [])) ∷ (‵ (flft κ q) ⊛ ‵ ftrue) ∷ ‵ Own ∷ []) ∵
         use1 W (‵ (Nm .own r (nv r ∷ [])) ⊛ ‵ (Nm .own r (nv r ∷ []))) (LL.copy N.the-type N′.the-copy 𝓤 H A W .twice r (nv r ∷ [])) $ split ! $
-        use1 W (given (nv r ∷ [] ≡ nv r ∷ []) (‵ (all-own (N.the-type .parts) N′.the-laws (r .offset, (r .len, (r .outcome, tt)))))) (own-open 𝓤 H A W N.the-type N′.the-laws (r .offset, (r .len, (r .outcome, tt))) (nv r)) $ learn ! (λ _.
+        use1 W (fields N.the-type N′.the-laws xs (nv r)) (own-open 𝓤 H A W N.the-type N′.the-laws xs (nv r)) $ learn ! (λ _.
         fsplit ! $ drop ! $ fsplit ! $ drop ! $
         -- [what the outcome owns, with true; the numbers; the token; the parameters]
         move ! (3 ∷ []) $ use1 W (‵ (Sl κ .own x (sv x ∷ [])) ⊛ ‵ Own) lend $ split ! $
         -- [the slice; the parameters; the outcome; the numbers; the token]
-        move ! (0 ∷ 2 ∷ []) $ fjoin ! $ move ! (3 ∷ 0 ∷ []) $ use2 W (raw (KeptC .pre kept-to)) (qed W ((‵ (flft κ q) ⊛ ‵ ftrue) ∷ ‵ (owns (Sl κ ∷ O.the-row ∷ []) kept-args passed) ∷ []) ∵ join ! $ frame ! $ done !) $
+        move ! (0 ∷ 2 ∷ []) $ fjoin ! $ move ! (3 ∷ 0 ∷ []) $
+        use2 W (raw (KeptC .pre kept-to)) (qed W ((‵ (flft κ q) ⊛ ‵ ftrue) ∷ ‵ (owns (Sl κ ∷ O.the-row ∷ []) kept-args passed) ∷ []) ∵ join ! $ frame ! $ done !) $
         frame ! $ move ! (1 ∷ 0 ∷ []) $ join ! $ done !)

@@ -18,7 +18,8 @@ use Rattle.views.specs.Views.{Lent, lent, made, sliced, normalised}
 use Rattle.views.specs.declared.view.Part.{Part}
 use Rattle.views.specs.declared.view.View.{View}
 
-lent-if : (p : Outcome) (bs : List ℕ) (o len : ℕ) → lent (ifDone p bs []) (ifDone {A = ℕ × ℕ} p (o, len) (0, 0) .0) (ifDone {A = ℕ × ℕ} p (o, len) (0, 0) .1) ≡ ifDone p (lent bs o len) (lent [] 0 0)
+lent-if : (p : Outcome) (bs : List ℕ) (o len : ℕ)
+    → lent (ifDone p bs []) (ifDone {A = ℕ × ℕ} p (o, len) (0, 0) .0) (ifDone {A = ℕ × ℕ} p (o, len) (0, 0) .1) ≡ ifDone p (lent bs o len) (lent [] 0 0)
 lent-if Done bs o len = refl
 lent-if (Refused r) bs o len = refl
 
@@ -30,7 +31,8 @@ abbrev pub part-of : Numbers → RefT (List ℕ) → Part
 part-of n s = record { view = view-of n s; outcome = n .outcome }
 
 -- what a part says by its numbers and its bytes
-part-says : (n : Numbers) (s : RefT (List ℕ)) (q : Outcome) (bs : List ℕ) (o len : ℕ) → numbersSay n ≡ answer q (o, len) (0, 0) → now s ≡ ifDone q bs [] → partSays (part-of n s) ≡ answer q (lent bs o len) (lent [] 0 0)
+part-says : (n : Numbers) (s : RefT (List ℕ)) (q : Outcome) (bs : List ℕ) (o len : ℕ) → numbersSay n ≡ answer q (o, len) (0, 0)
+    → now s ≡ ifDone q bs [] → partSays (part-of n s) ≡ answer q (lent bs o len) (lent [] 0 0)
 part-says n s q bs o len e eb =
     (λ i. record { no = e i .no; values = lent (eb i) (e i .values .0) (e i .values .1) })
     ∙ ap (λ (v : Lent). record { no = numberOf q; values = v }) (lent-if q bs o len)
@@ -39,7 +41,8 @@ numbers-outcome : (n : Numbers) (q : Outcome) (v : ℕ × ℕ) → numbersSay n 
 numbers-outcome n q v e = sym (outcomeAt-number (n .outcome)) ∙ ap (λ (x : Answer (ℕ × ℕ)). outcomeAt (x .no)) e ∙ outcomeAt-number q
 
 -- the bytes themselves, kept where the numbers are not refused
-kept-says : (n : Numbers) (s : RefT (List ℕ)) (q : Outcome) (bs : List ℕ) (o len : ℕ) → numbersSay n ≡ answer q (o, len) (0, 0) → now s ≡ ifDone (n .outcome) bs [] → partSays (part-of n s) ≡ answer q (lent bs o len) (lent [] 0 0)
+kept-says : (n : Numbers) (s : RefT (List ℕ)) (q : Outcome) (bs : List ℕ) (o len : ℕ) → numbersSay n ≡ answer q (o, len) (0, 0)
+    → now s ≡ ifDone (n .outcome) bs [] → partSays (part-of n s) ≡ answer q (lent bs o len) (lent [] 0 0)
 kept-says n s q bs o len e eb = part-says n s q bs o len e (eb ∙ ap (λ (p : Outcome). ifDone p bs []) (numbers-outcome n q (o, len) e))
 
 module _ (w : ℕ) (bs : List ℕ) (o len : ℕ) (n : Numbers) (s : RefT (List ℕ)) where

@@ -1,6 +1,6 @@
 -- What slicing and normalising do to the characters: a part that is handed back is accepted again, a slice has the characters from its start up to its end, and normalising keeps them all.
 -- Assumes nothing.
-use mathlib.Core.List.{List, [], _∷_, _++_}
+use mathlib.Core.List.{List, [], _∷_}
 use mathlib.Core.Path.{_≡_, refl, sym, ap, _∙_, subst}
 use Prim.Native.Nat.{ℕ, _+_, _-_, _*_, _/_, _%_, _^_, _≤_}
 use native.Mathlib.Nat.{add-sub-of-le, add-mul, div-add-mod'}
@@ -34,9 +34,10 @@ room-done w n o len r =
 -- the characters from start up to end
 pub chars-between : (w : ℕ) (bs : List ℕ) (o len start end : ℕ) → start ≤ end → end ≤ len → chars w bs (o + start) (end - start) ≡ take (end - start) (drop start (chars w bs o len))
 chars-between w bs o len start end l m =
-    sym (ap (λ (cs : List ℕ). take (end - start) (drop start cs)) (ap (chars w bs o) (sym whole) ∙ chars-append w bs o start (end - start + (len - end)))
-    ∙ ap (take (end - start)) (drop-at (chars w bs o start) (chars w bs (o + start) (end - start + (len - end))) start (length-chars w bs o start) ∙ chars-append w bs (o + start) (end - start) (len - end))
-    ∙ take-at (chars w bs (o + start) (end - start)) (chars w bs (o + start + (end - start)) (len - end)) (end - start) (length-chars w bs (o + start) (end - start)))
+    let n : ℕ = end - start in
+    sym (ap (λ (cs : List ℕ). take n (drop start cs)) (ap (chars w bs o) (sym whole) ∙ chars-append w bs o start (n + (len - end)))
+    ∙ ap (take n) (drop-at (chars w bs o start) (chars w bs (o + start) (n + (len - end))) start (length-chars w bs o start) ∙ chars-append w bs (o + start) n (len - end))
+    ∙ take-at (chars w bs (o + start) n) (chars w bs (o + start + n) (len - end)) n (length-chars w bs (o + start) n))
   where
     whole : start + (end - start + (len - end)) ≡ len
     whole = omega arith
@@ -95,7 +96,8 @@ module _ {w : ℕ} {cs : List ℕ} (p : Lent) (h : Holds w cs p) where
 
   pub slicedOf-holds : (start end : ℕ) → start ≤ end → end ≤ length cs → Holds w (take (end - start) (drop start cs)) (slicedOf w p start end .values)
   slicedOf-holds start end l m =
-      subst (λ (xs : List ℕ). Holds w (take (end - start) (drop start xs)) (slicedOf w p start end .values)) (h .characters) (sliced-holds (p .bytes) (p .offset) (p .len) (h .accepted) start end l (omega (arith, length-held)) .1)
+      subst (λ (xs : List ℕ). Holds w (take (end - start) (drop start xs)) (slicedOf w p start end .values)) (h .characters)
+      (sliced-holds (p .bytes) (p .offset) (p .len) (h .accepted) start end l (omega (arith, length-held)) .1)
 
   pub normalisedOf-holds : IsWidth w → Holds w cs (normalisedOf w p .values)
   normalisedOf-holds W = subst (λ (xs : List ℕ). Holds w xs (normalisedOf w p .values)) (h .characters) (normalised-holds (p .bytes) (p .offset) (p .len) (h .accepted) W .1)
@@ -103,7 +105,8 @@ module _ {w : ℕ} {cs : List ℕ} (p : Lent) (h : Holds w cs p) where
   pub gotOf-is : (i : ℕ) → gotOf w p i ≡ answer (first (badIndex (length cs) i ∷ [])) (getD cs i 0) 0
   unfolding got
   gotOf-is i =
-      let d : first (viewTests w (length (p .bytes)) (p .offset) (p .len) ++ badIndex (p .len) i ∷ []) ≡ first (badIndex (length cs) i ∷ []) = first-done (viewTests w (length (p .bytes)) (p .offset) (p .len)) (badIndex (p .len) i ∷ []) (h .accepted) ∙ ap (λ (n : ℕ). first (badIndex n i ∷ [])) length-held in
+      let ts : List Test = viewTests w (length (p .bytes)) (p .offset) (p .len) in
+      let d = first-done ts (badIndex (p .len) i ∷ []) (h .accepted) ∙ ap (λ (n : ℕ). first (badIndex n i ∷ [])) length-held in
       λ j. answer (d j) (getD (h .characters j) i 0) 0
 
 -- a character of a view that is made, sliced and normalised is one of the slice; a refusal of the view or of the slice goes first
@@ -122,11 +125,14 @@ module _ {w : ℕ} (W : IsWidth w) (bs : List ℕ) (o len start end i : ℕ) whe
       let e = first-both (viewTests w (length bs) o len) (badEnd len end ∷ badStart start end ∷ []) d .0 in
       let h = slicedOf-holds (made w bs o len .values) (made-holds bs o len e) start end (cut .starts) (rw length-chars (cut .ends)) in
       let long : length (take n (drop start cs)) ≡ n = length-take-le n (drop start cs) (rw (length-drop, length-chars) (omega (arith, cut .ends))) in
-      gotOf-is (normalisedOf w (slicedOf w (made w bs o len .values) start end .values) .values) (normalisedOf-holds (slicedOf w (made w bs o len .values) start end .values) h W) i
+      let p : Lent = slicedOf w (made w bs o len .values) start end .values in
+      gotOf-is (normalisedOf w p .values) (normalisedOf-holds p h W) i
       ∙ ap (λ (k : ℕ). answer (first (badIndex k i ∷ [])) (getD (take n (drop start cs)) i 0) 0) long
       ∙ below-or i n
       (λ l. ap (λ (v : ℕ). answer (first (badIndex n i ∷ [])) v 0) (getD-take n (drop start cs) i 0 l ∙ getD-drop start cs i 0))
-      (λ l. let f = first-holds (leb n i) BadRange [] (le-leb n i l) in ap (λ (q : Outcome). answer q (getD (take n (drop start cs)) i 0) 0) f ∙ sym (ap (λ (q : Outcome). answer q (getD cs (start + i) 0) 0) f))
+      (λ l.
+      let f = first-holds (leb n i) BadRange [] (le-leb n i l) in
+      ap (λ (q : Outcome). answer q (getD (take n (drop start cs)) i 0) 0) f ∙ sym (ap (λ (q : Outcome). answer q (getD cs (start + i) 0) 0) f))
 
   pub gotSliced-is : ifDone (first tests) read (answer (first tests) 0 0) ≡ gotSliced w bs o len start end i
   unfolding gotSliced

@@ -1,4 +1,5 @@
--- Only the characters of a view count: accepted views with equal characters get equal answers, call by call. Each answer is made of the outcome, the length and the characters alone.
+-- Only the characters of a view count: accepted views with equal characters get equal answers, call by call. Each answer is made of
+-- the outcome, the length and the characters alone.
 -- Assumes nothing.
 use mathlib.Core.List.{List, [], _∷_, _++_}
 use mathlib.Core.Path.{_≡_, sym, ap, _∙_}
@@ -10,7 +11,7 @@ use Rattle.codes.specs.Refusals.{Test, answer, first, badIndex, badEnd, badStar
 use Rattle.codes.specs.Words.{word}
 use Rattle.codes.specs.declared.refusals.Outcome.{Outcome}
 use Rattle.codes.specs.declared.refusals.Outcome.the-variants.{Done}
-use Rattle.codes.proofs.CharLaws.{length-chars}
+use Rattle.codes.proofs.CharLaws.{same-length}
 use Rattle.codes.proofs.OutcomeLaws.{first-done}
 use Rattle.fields.specs.Fields.{viewTests, got, asU64, asU128, flipped, flippedAsU64, flippedAsU128}
 use Rattle.views.specs.Views.{gotSliced}
@@ -23,14 +24,18 @@ pub record Same (w : ℕ) (bs : List ℕ) (o m : ℕ) (cs : List ℕ) (p n : ℕ
 
 -- one view: a call's answer by its outcome, its length and its characters
 module _ {w : ℕ} {bs : List ℕ} {o m : ℕ} {cs : List ℕ} {p n : ℕ} (s : Same w bs o m cs p n) where
-  pub same-length : m ≡ n
-  same-length = sym (length-chars w bs o m) ∙ ap length (s .same) ∙ length-chars w cs p n
+  abbrev long : m ≡ n
+  long = same-length w bs o m cs p n (s .same)
 
   tests : (ts : ℕ → List Test) → first (viewTests w (length bs) o m ++ ts m) ≡ first (viewTests w (length cs) p n ++ ts n)
-  tests ts = first-done (viewTests w (length bs) o m) (ts m) (s .left) ∙ ap (λ (k : ℕ). first (ts k)) same-length ∙ sym (first-done (viewTests w (length cs) p n) (ts n) (s .right))
+  tests ts =
+      first-done (viewTests w (length bs) o m) (ts m) (s .left)
+      ∙ ap (λ (k : ℕ). first (ts k)) long
+      ∙ sym (first-done (viewTests w (length cs) p n) (ts n) (s .right))
 
-  pub viewed : {A : Type 0} (ts : ℕ → List Test) (f : Outcome → ℕ → List ℕ → A) → f (first (viewTests w (length bs) o m ++ ts m)) m (chars w bs o m) ≡ f (first (viewTests w (length cs) p n ++ ts n)) n (chars w cs p n)
-  viewed ts f = λ i. f (tests ts i) (same-length i) (s .same i)
+  pub viewed : {A : Type 0} (ts : ℕ → List Test) (f : Outcome → ℕ → List ℕ → A)
+      → f (first (viewTests w (length bs) o m ++ ts m)) m (chars w bs o m) ≡ f (first (viewTests w (length cs) p n ++ ts n)) n (chars w cs p n)
+  viewed ts f = λ i. f (tests ts i) (long i) (s .same i)
 
   pub got-viewed : (i : ℕ) → got w bs o m i ≡ got w cs p n i
   unfolding got

@@ -8,12 +8,13 @@ use Rattle.codes.specs.Codes.{chars}
 use Rattle.codes.specs.Refusals.{answer, first, ifDone, noRoom}
 use Rattle.codes.specs.declared.refusals.Outcome.{Outcome}
 use Rattle.codes.specs.declared.refusals.Outcome.the-variants.{Done}
+use Rattle.codes.proofs.CharLaws.{same-length}
 use Rattle.fields.specs.Fields.{viewTests}
 use Rattle.lanes.specs.Lanes.{lane, padding, steps, badShape}
 use Rattle.streams.specs.Streams.{badStep}
 use Rattle.windows.specs.Windows.{badWindow, badSkip, badState, windowsFilled, windowsOutcome, windowsAnswer, windowsAfter}
 use Rattle.windows.specs.Windows.{Running, atZero, stepAnswers, stepState, runOutcome, runAnswers, runState}
-use Rattle.streams.proofs.Viewed.{same-length, same-tests}
+use Rattle.streams.proofs.Viewed.{same-tests}
 
 module _ (xs : List ℕ) (p m : ℕ) (bs : List ℕ) (o len : ℕ) (same : chars 1 xs p m ≡ chars 1 bs o len) (mine : first (viewTests 1 (length xs) p m) ≡ Done)
     (other : first (viewTests 1 (length bs) o len) ≡ Done) (c k : ℕ) where

@@ -5,7 +5,7 @@ ghost use mathlib.Core.Path.{_≡_};
 ghost use lib.ListN.{length};
 ghost use Rattle.codes.specs.Refusals.{numberOf};
 ghost use Rattle.given.specs.Face.{said};
-ghost use Rattle.streams.specs.Streams.{shaped, fillOutcome, fillAnswer, fillAfter, stepOutcome, stepLanes};
+ghost use Rattle.streams.specs.Streams.{shaped, fillAnswer, fillAfter, stepOutcome, stepLanes};
 
 #[no_mangle]
 pub extern "C" fn tsiv_flags_shape(
@@ -32,8 +32,10 @@ pub extern "C" fn tsiv_flags_fill(
     steps: &mut usize,
     padding: &mut usize,
 ) -> u32
-    ensures answer { λ r. ⌜ said r (now (steps .exit), now (padding .exit)) ≡ fillAnswer 1 (now (bytes .entry)) offset len context factor 0 0 (length (now (out .entry)) ∷ []) ⌝ }
-    ensures out { λ _. ⌜ now (out .exit) ≡ fillAfter 1 (now (bytes .entry)) offset len context factor 0 (fillOutcome 1 (now (bytes .entry)) offset len context factor 0 0 (length (now (out .entry)) ∷ [])) (now (out .entry)) ⌝ }
+    ensures answer { λ r. ⌜ said r (now (steps .exit), now (padding .exit))
+        ≡ fillAnswer 1 (now (bytes .entry)) offset len context factor 0 0 (length (now (out .entry)) ∷ []) ⌝ }
+    ensures out { λ _. ⌜ now (out .exit)
+        ≡ fillAfter 1 (now (bytes .entry)) offset len context factor 0 0 (length (now (out .entry)) ∷ []) 0 (now (out .entry)) ⌝ }
 {
     stream::fill(1, bytes, offset, len, context, factor, out, steps, padding)
 }
@@ -51,9 +53,12 @@ pub extern "C" fn tsiv_flags_fill_delayed(
     steps: &mut usize,
     padding: &mut usize,
 ) -> u32
-    ensures answer { λ r. ⌜ said r (now (steps .exit), now (padding .exit)) ≡ fillAnswer 1 (now (bytes .entry)) offset len context factor delay delay (length (now (out .entry)) ∷ length (now (delayed .entry)) ∷ []) ⌝ }
-    ensures out { λ _. ⌜ now (out .exit) ≡ fillAfter 1 (now (bytes .entry)) offset len context factor 0 (fillOutcome 1 (now (bytes .entry)) offset len context factor delay delay (length (now (out .entry)) ∷ length (now (delayed .entry)) ∷ [])) (now (out .entry)) ⌝ }
-    ensures delayed { λ _. ⌜ now (delayed .exit) ≡ fillAfter 1 (now (bytes .entry)) offset len context factor delay (fillOutcome 1 (now (bytes .entry)) offset len context factor delay delay (length (now (out .entry)) ∷ length (now (delayed .entry)) ∷ [])) (now (delayed .entry)) ⌝ }
+    ensures answer { λ r. ⌜ said r (now (steps .exit), now (padding .exit))
+        ≡ fillAnswer 1 (now (bytes .entry)) offset len context factor delay delay (length (now (out .entry)) ∷ length (now (delayed .entry)) ∷ []) ⌝ }
+    ensures out { λ _. ⌜ now (out .exit) ≡ fillAfter 1 (now (bytes .entry)) offset len context factor delay delay
+        (length (now (out .entry)) ∷ length (now (delayed .entry)) ∷ []) 0 (now (out .entry)) ⌝ }
+    ensures delayed { λ _. ⌜ now (delayed .exit) ≡ fillAfter 1 (now (bytes .entry)) offset len context factor delay delay
+        (length (now (out .entry)) ∷ length (now (delayed .entry)) ∷ []) delay (now (delayed .entry)) ⌝ }
 {
     stream::fill_delayed(
         1,
@@ -85,10 +90,14 @@ pub extern "C" fn tsiv_flags_fill_delayed_2(
     steps: &mut usize,
     padding: &mut usize,
 ) -> u32
-    ensures answer { λ r. ⌜ said r (now (steps .exit), now (padding .exit)) ≡ fillAnswer 1 (now (bytes .entry)) offset len context factor first second (length (now (out .entry)) ∷ length (now (out1 .entry)) ∷ length (now (out2 .entry)) ∷ []) ⌝ }
-    ensures out { λ _. ⌜ now (out .exit) ≡ fillAfter 1 (now (bytes .entry)) offset len context factor 0 (fillOutcome 1 (now (bytes .entry)) offset len context factor first second (length (now (out .entry)) ∷ length (now (out1 .entry)) ∷ length (now (out2 .entry)) ∷ [])) (now (out .entry)) ⌝ }
-    ensures out1 { λ _. ⌜ now (out1 .exit) ≡ fillAfter 1 (now (bytes .entry)) offset len context factor first (fillOutcome 1 (now (bytes .entry)) offset len context factor first second (length (now (out .entry)) ∷ length (now (out1 .entry)) ∷ length (now (out2 .entry)) ∷ [])) (now (out1 .entry)) ⌝ }
-    ensures out2 { λ _. ⌜ now (out2 .exit) ≡ fillAfter 1 (now (bytes .entry)) offset len context factor second (fillOutcome 1 (now (bytes .entry)) offset len context factor first second (length (now (out .entry)) ∷ length (now (out1 .entry)) ∷ length (now (out2 .entry)) ∷ [])) (now (out2 .entry)) ⌝ }
+    ensures answer { λ r. ⌜ said r (now (steps .exit), now (padding .exit)) ≡ fillAnswer 1 (now (bytes .entry)) offset len context factor first second
+        (length (now (out .entry)) ∷ length (now (out1 .entry)) ∷ length (now (out2 .entry)) ∷ []) ⌝ }
+    ensures out { λ _. ⌜ now (out .exit) ≡ fillAfter 1 (now (bytes .entry)) offset len context factor first second
+        (length (now (out .entry)) ∷ length (now (out1 .entry)) ∷ length (now (out2 .entry)) ∷ []) 0 (now (out .entry)) ⌝ }
+    ensures out1 { λ _. ⌜ now (out1 .exit) ≡ fillAfter 1 (now (bytes .entry)) offset len context factor first second
+        (length (now (out .entry)) ∷ length (now (out1 .entry)) ∷ length (now (out2 .entry)) ∷ []) first (now (out1 .entry)) ⌝ }
+    ensures out2 { λ _. ⌜ now (out2 .exit) ≡ fillAfter 1 (now (bytes .entry)) offset len context factor first second
+        (length (now (out .entry)) ∷ length (now (out1 .entry)) ∷ length (now (out2 .entry)) ∷ []) second (now (out2 .entry)) ⌝ }
 {
     stream::fill_delayed_2(
         1,
@@ -118,7 +127,7 @@ pub extern "C" fn tsiv_flags_step(
     lanes: &mut [u32; 8],
 ) -> u32
     ensures number { λ r. ⌜ r ≡ numberOf (stepOutcome 1 (now (bytes .entry)) offset len context factor 0 0 j) ⌝ }
-    ensures lanes { λ _. ⌜ now (lanes .exit) ≡ stepLanes 1 (now (bytes .entry)) offset len context factor 0 j (stepOutcome 1 (now (bytes .entry)) offset len context factor 0 0 j) ⌝ }
+    ensures lanes { λ _. ⌜ now (lanes .exit) ≡ stepLanes 1 (now (bytes .entry)) offset len context factor 0 0 j 0 ⌝ }
 {
     stream::step(1, bytes, offset, len, context, factor, j, lanes)
 }
@@ -136,8 +145,8 @@ pub extern "C" fn tsiv_flags_step_delayed(
     lanes1: &mut [u32; 8],
 ) -> u32
     ensures number { λ r. ⌜ r ≡ numberOf (stepOutcome 1 (now (bytes .entry)) offset len context factor delay delay j) ⌝ }
-    ensures lanes { λ _. ⌜ now (lanes .exit) ≡ stepLanes 1 (now (bytes .entry)) offset len context factor 0 j (stepOutcome 1 (now (bytes .entry)) offset len context factor delay delay j) ⌝ }
-    ensures lanes1 { λ _. ⌜ now (lanes1 .exit) ≡ stepLanes 1 (now (bytes .entry)) offset len context factor delay j (stepOutcome 1 (now (bytes .entry)) offset len context factor delay delay j) ⌝ }
+    ensures lanes { λ _. ⌜ now (lanes .exit) ≡ stepLanes 1 (now (bytes .entry)) offset len context factor delay delay j 0 ⌝ }
+    ensures lanes1 { λ _. ⌜ now (lanes1 .exit) ≡ stepLanes 1 (now (bytes .entry)) offset len context factor delay delay j delay ⌝ }
 {
     stream::step_delayed(
         1,
@@ -168,9 +177,9 @@ pub extern "C" fn tsiv_flags_step_delayed_2(
     lanes2: &mut [u32; 8],
 ) -> u32
     ensures number { λ r. ⌜ r ≡ numberOf (stepOutcome 1 (now (bytes .entry)) offset len context factor first second j) ⌝ }
-    ensures lanes { λ _. ⌜ now (lanes .exit) ≡ stepLanes 1 (now (bytes .entry)) offset len context factor 0 j (stepOutcome 1 (now (bytes .entry)) offset len context factor first second j) ⌝ }
-    ensures lanes1 { λ _. ⌜ now (lanes1 .exit) ≡ stepLanes 1 (now (bytes .entry)) offset len context factor first j (stepOutcome 1 (now (bytes .entry)) offset len context factor first second j) ⌝ }
-    ensures lanes2 { λ _. ⌜ now (lanes2 .exit) ≡ stepLanes 1 (now (bytes .entry)) offset len context factor second j (stepOutcome 1 (now (bytes .entry)) offset len context factor first second j) ⌝ }
+    ensures lanes { λ _. ⌜ now (lanes .exit) ≡ stepLanes 1 (now (bytes .entry)) offset len context factor first second j 0 ⌝ }
+    ensures lanes1 { λ _. ⌜ now (lanes1 .exit) ≡ stepLanes 1 (now (bytes .entry)) offset len context factor first second j first ⌝ }
+    ensures lanes2 { λ _. ⌜ now (lanes2 .exit) ≡ stepLanes 1 (now (bytes .entry)) offset len context factor first second j second ⌝ }
 {
     stream::step_delayed_2(
         1,

@@ -10,7 +10,7 @@ ghost use lib.ListN.{length};
 ghost use Rattle.codes.specs.Codes.{IsWidth};
 ghost use Rattle.codes.specs.Refusals.{numberOf};
 ghost use Rattle.given.specs.Face.{said};
-ghost use Rattle.streams.specs.Streams.{shaped, fillOutcome, fillAnswer, fillAfter, stepOutcome, stepLanes};
+ghost use Rattle.streams.specs.Streams.{shaped, fillAnswer, fillAfter, stepOutcome, stepLanes};
 
 pub fn shape(
     w: usize,
@@ -44,8 +44,10 @@ pub fn fill(
     padding: &mut usize,
 ) -> u32
     requires { ⌜ IsWidth w ⌝ }
-    ensures answer { λ r. ⌜ said r (now (steps .exit), now (padding .exit)) ≡ fillAnswer w (now (bytes .entry)) offset len context factor 0 0 (length (now (out .entry)) ∷ []) ⌝ }
-    ensures out { λ _. ⌜ now (out .exit) ≡ fillAfter w (now (bytes .entry)) offset len context factor 0 (fillOutcome w (now (bytes .entry)) offset len context factor 0 0 (length (now (out .entry)) ∷ [])) (now (out .entry)) ⌝ }
+    ensures answer { λ r. ⌜ said r (now (steps .exit), now (padding .exit))
+        ≡ fillAnswer w (now (bytes .entry)) offset len context factor 0 0 (length (now (out .entry)) ∷ []) ⌝ }
+    ensures out { λ _. ⌜ now (out .exit)
+        ≡ fillAfter w (now (bytes .entry)) offset len context factor 0 0 (length (now (out .entry)) ∷ []) 0 (now (out .entry)) ⌝ }
 {
     give::filled(
         fills::fill(
@@ -76,9 +78,12 @@ pub fn fill_delayed(
     padding: &mut usize,
 ) -> u32
     requires { ⌜ IsWidth w ⌝ }
-    ensures answer { λ r. ⌜ said r (now (steps .exit), now (padding .exit)) ≡ fillAnswer w (now (bytes .entry)) offset len context factor delay delay (length (now (out .entry)) ∷ length (now (delayed .entry)) ∷ []) ⌝ }
-    ensures out { λ _. ⌜ now (out .exit) ≡ fillAfter w (now (bytes .entry)) offset len context factor 0 (fillOutcome w (now (bytes .entry)) offset len context factor delay delay (length (now (out .entry)) ∷ length (now (delayed .entry)) ∷ [])) (now (out .entry)) ⌝ }
-    ensures delayed { λ _. ⌜ now (delayed .exit) ≡ fillAfter w (now (bytes .entry)) offset len context factor delay (fillOutcome w (now (bytes .entry)) offset len context factor delay delay (length (now (out .entry)) ∷ length (now (delayed .entry)) ∷ [])) (now (delayed .entry)) ⌝ }
+    ensures answer { λ r. ⌜ said r (now (steps .exit), now (padding .exit))
+        ≡ fillAnswer w (now (bytes .entry)) offset len context factor delay delay (length (now (out .entry)) ∷ length (now (delayed .entry)) ∷ []) ⌝ }
+    ensures out { λ _. ⌜ now (out .exit) ≡ fillAfter w (now (bytes .entry)) offset len context factor delay delay
+        (length (now (out .entry)) ∷ length (now (delayed .entry)) ∷ []) 0 (now (out .entry)) ⌝ }
+    ensures delayed { λ _. ⌜ now (delayed .exit) ≡ fillAfter w (now (bytes .entry)) offset len context factor delay delay
+        (length (now (out .entry)) ∷ length (now (delayed .entry)) ∷ []) delay (now (delayed .entry)) ⌝ }
 {
     give::filled(
         fills::fill_delayed(
@@ -113,10 +118,14 @@ pub fn fill_delayed_2(
     padding: &mut usize,
 ) -> u32
     requires { ⌜ IsWidth w ⌝ }
-    ensures answer { λ r. ⌜ said r (now (steps .exit), now (padding .exit)) ≡ fillAnswer w (now (bytes .entry)) offset len context factor first second (length (now (out .entry)) ∷ length (now (out1 .entry)) ∷ length (now (out2 .entry)) ∷ []) ⌝ }
-    ensures out { λ _. ⌜ now (out .exit) ≡ fillAfter w (now (bytes .entry)) offset len context factor 0 (fillOutcome w (now (bytes .entry)) offset len context factor first second (length (now (out .entry)) ∷ length (now (out1 .entry)) ∷ length (now (out2 .entry)) ∷ [])) (now (out .entry)) ⌝ }
-    ensures out1 { λ _. ⌜ now (out1 .exit) ≡ fillAfter w (now (bytes .entry)) offset len context factor first (fillOutcome w (now (bytes .entry)) offset len context factor first second (length (now (out .entry)) ∷ length (now (out1 .entry)) ∷ length (now (out2 .entry)) ∷ [])) (now (out1 .entry)) ⌝ }
-    ensures out2 { λ _. ⌜ now (out2 .exit) ≡ fillAfter w (now (bytes .entry)) offset len context factor second (fillOutcome w (now (bytes .entry)) offset len context factor first second (length (now (out .entry)) ∷ length (now (out1 .entry)) ∷ length (now (out2 .entry)) ∷ [])) (now (out2 .entry)) ⌝ }
+    ensures answer { λ r. ⌜ said r (now (steps .exit), now (padding .exit)) ≡ fillAnswer w (now (bytes .entry)) offset len context factor first second
+        (length (now (out .entry)) ∷ length (now (out1 .entry)) ∷ length (now (out2 .entry)) ∷ []) ⌝ }
+    ensures out { λ _. ⌜ now (out .exit) ≡ fillAfter w (now (bytes .entry)) offset len context factor first second
+        (length (now (out .entry)) ∷ length (now (out1 .entry)) ∷ length (now (out2 .entry)) ∷ []) 0 (now (out .entry)) ⌝ }
+    ensures out1 { λ _. ⌜ now (out1 .exit) ≡ fillAfter w (now (bytes .entry)) offset len context factor first second
+        (length (now (out .entry)) ∷ length (now (out1 .entry)) ∷ length (now (out2 .entry)) ∷ []) first (now (out1 .entry)) ⌝ }
+    ensures out2 { λ _. ⌜ now (out2 .exit) ≡ fillAfter w (now (bytes .entry)) offset len context factor first second
+        (length (now (out .entry)) ∷ length (now (out1 .entry)) ∷ length (now (out2 .entry)) ∷ []) second (now (out2 .entry)) ⌝ }
 {
     give::filled(
         fills::fill_delayed_2(
@@ -149,7 +158,7 @@ pub fn step(
 ) -> u32
     requires { ⌜ IsWidth w ⌝ }
     ensures number { λ r. ⌜ r ≡ numberOf (stepOutcome w (now (bytes .entry)) offset len context factor 0 0 j) ⌝ }
-    ensures lanes { λ _. ⌜ now (lanes .exit) ≡ stepLanes w (now (bytes .entry)) offset len context factor 0 j (stepOutcome w (now (bytes .entry)) offset len context factor 0 0 j) ⌝ }
+    ensures lanes { λ _. ⌜ now (lanes .exit) ≡ stepLanes w (now (bytes .entry)) offset len context factor 0 0 j 0 ⌝ }
 {
     let stepped = steps::step(
         w,
@@ -180,8 +189,8 @@ pub fn step_delayed(
 ) -> u32
     requires { ⌜ IsWidth w ⌝ }
     ensures number { λ r. ⌜ r ≡ numberOf (stepOutcome w (now (bytes .entry)) offset len context factor delay delay j) ⌝ }
-    ensures lanes { λ _. ⌜ now (lanes .exit) ≡ stepLanes w (now (bytes .entry)) offset len context factor 0 j (stepOutcome w (now (bytes .entry)) offset len context factor delay delay j) ⌝ }
-    ensures lanes1 { λ _. ⌜ now (lanes1 .exit) ≡ stepLanes w (now (bytes .entry)) offset len context factor delay j (stepOutcome w (now (bytes .entry)) offset len context factor delay delay j) ⌝ }
+    ensures lanes { λ _. ⌜ now (lanes .exit) ≡ stepLanes w (now (bytes .entry)) offset len context factor delay delay j 0 ⌝ }
+    ensures lanes1 { λ _. ⌜ now (lanes1 .exit) ≡ stepLanes w (now (bytes .entry)) offset len context factor delay delay j delay ⌝ }
 {
     let stepped = steps::step_delayed(
         w,
@@ -217,9 +226,9 @@ pub fn step_delayed_2(
 ) -> u32
     requires { ⌜ IsWidth w ⌝ }
     ensures number { λ r. ⌜ r ≡ numberOf (stepOutcome w (now (bytes .entry)) offset len context factor first second j) ⌝ }
-    ensures lanes { λ _. ⌜ now (lanes .exit) ≡ stepLanes w (now (bytes .entry)) offset len context factor 0 j (stepOutcome w (now (bytes .entry)) offset len context factor first second j) ⌝ }
-    ensures lanes1 { λ _. ⌜ now (lanes1 .exit) ≡ stepLanes w (now (bytes .entry)) offset len context factor first j (stepOutcome w (now (bytes .entry)) offset len context factor first second j) ⌝ }
-    ensures lanes2 { λ _. ⌜ now (lanes2 .exit) ≡ stepLanes w (now (bytes .entry)) offset len context factor second j (stepOutcome w (now (bytes .entry)) offset len context factor first second j) ⌝ }
+    ensures lanes { λ _. ⌜ now (lanes .exit) ≡ stepLanes w (now (bytes .entry)) offset len context factor first second j 0 ⌝ }
+    ensures lanes1 { λ _. ⌜ now (lanes1 .exit) ≡ stepLanes w (now (bytes .entry)) offset len context factor first second j first ⌝ }
+    ensures lanes2 { λ _. ⌜ now (lanes2 .exit) ≡ stepLanes w (now (bytes .entry)) offset len context factor first second j second ⌝ }
 {
     let stepped = steps::step_delayed_2(
         w,

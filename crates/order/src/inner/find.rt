@@ -44,7 +44,7 @@ fn find_at(w: usize, p: &[u8], po: usize, pl: usize, t: &[u8], to: usize, tl: us
     requires { ⌜ IsWidth w ⌝ }
     requires { ⌜ (po + pl ≤ length (now p) * per w) × (length (now p) ≤ 2 ^ 28) ⌝ }
     requires { ⌜ (to + tl ≤ length (now t) * per w) × (length (now t) ≤ 2 ^ 28) ⌝ }
-    ensures { λ r. ⌜ foundSays r ≡ answer Done (placed w (now (p .entry)) po pl (now (t .entry)) to tl (placeOf (chars w (now (p .entry)) po pl) (chars w (now (t .entry)) to tl))) (false, 0) ⌝ }
+    ensures { λ r. ⌜ foundSays r ≡ answer Done (placed (placeOf (chars w (now (p .entry)) po pl) (chars w (now (t .entry)) to tl))) (false, 0) ⌝ }
 {
     if tl < pl {
         return Found::Absent;

@@ -98,7 +98,8 @@ pub fn seq_outcome(
     count: Chars,
 ) -> Outcome
     requires { ⌜ IsWidth w ⌝ }
-    ensures { λ r. ⌜ r ≡ first (tooLong size ∷ tooLong bytes ∷ badStore w size (len .0) ∷ badView w bytes (offset .0) (count .0) ∷ noStore w size (seqStart w (len .0) (offset .0) + count .0) ∷ []) ⌝ }
+    ensures { λ r. ⌜ r ≡ first (tooLong size ∷ tooLong bytes ∷ badStore w size (len .0)
+        ∷ badView w bytes (offset .0) (count .0) ∷ noStore w size (seqStart w (len .0) (offset .0) + count .0) ∷ []) ⌝ }
 {
     if too_long(size) {
         return Outcome::Refused(Refusal::TooLong);

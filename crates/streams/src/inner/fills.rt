@@ -8,7 +8,7 @@ ghost use mathlib.Core.List.{[], _∷_};
 ghost use mathlib.Core.Path.{_≡_};
 ghost use lib.ListN.{length};
 ghost use Rattle.codes.specs.Codes.{IsWidth};
-ghost use Rattle.streams.specs.Streams.{fillOutcome, fillAnswer, fillAfter};
+ghost use Rattle.streams.specs.Streams.{fillAnswer, fillAfter};
 ghost use Rattle.streams.specs.Answers.{filledSays};
 
 pub fn fill(
@@ -22,7 +22,8 @@ pub fn fill(
 ) -> Filled
     requires { ⌜ IsWidth w ⌝ }
     ensures answer { λ r. ⌜ filledSays r ≡ fillAnswer w (now (bytes .entry)) (offset .0) (len .0) (context .0) factor 0 0 (length (now (out .entry)) ∷ []) ⌝ }
-    ensures out { λ _. ⌜ now (out .exit) ≡ fillAfter w (now (bytes .entry)) (offset .0) (len .0) (context .0) factor 0 (fillOutcome w (now (bytes .entry)) (offset .0) (len .0) (context .0) factor 0 0 (length (now (out .entry)) ∷ [])) (now (out .entry)) ⌝ }
+    ensures out { λ _. ⌜ now (out .exit)
+        ≡ fillAfter w (now (bytes .entry)) (offset .0) (len .0) (context .0) factor 0 0 (length (now (out .entry)) ∷ []) 0 (now (out .entry)) ⌝ }
 {
     let none = Chars::new(0);
     match fill_answer(
@@ -56,9 +57,12 @@ pub fn fill_delayed(
     delayed: &mut [u32],
 ) -> Filled
     requires { ⌜ IsWidth w ⌝ }
-    ensures answer { λ r. ⌜ filledSays r ≡ fillAnswer w (now (bytes .entry)) (offset .0) (len .0) (context .0) factor (delay .0) (delay .0) (length (now (out .entry)) ∷ length (now (delayed .entry)) ∷ []) ⌝ }
-    ensures out { λ _. ⌜ now (out .exit) ≡ fillAfter w (now (bytes .entry)) (offset .0) (len .0) (context .0) factor 0 (fillOutcome w (now (bytes .entry)) (offset .0) (len .0) (context .0) factor (delay .0) (delay .0) (length (now (out .entry)) ∷ length (now (delayed .entry)) ∷ [])) (now (out .entry)) ⌝ }
-    ensures delayed { λ _. ⌜ now (delayed .exit) ≡ fillAfter w (now (bytes .entry)) (offset .0) (len .0) (context .0) factor (delay .0) (fillOutcome w (now (bytes .entry)) (offset .0) (len .0) (context .0) factor (delay .0) (delay .0) (length (now (out .entry)) ∷ length (now (delayed .entry)) ∷ [])) (now (delayed .entry)) ⌝ }
+    ensures answer { λ r. ⌜ filledSays r ≡ fillAnswer w (now (bytes .entry)) (offset .0) (len .0) (context .0) factor (delay .0) (delay .0)
+        (length (now (out .entry)) ∷ length (now (delayed .entry)) ∷ []) ⌝ }
+    ensures out { λ _. ⌜ now (out .exit) ≡ fillAfter w (now (bytes .entry)) (offset .0) (len .0) (context .0) factor (delay .0) (delay .0)
+        (length (now (out .entry)) ∷ length (now (delayed .entry)) ∷ []) 0 (now (out .entry)) ⌝ }
+    ensures delayed { λ _. ⌜ now (delayed .exit) ≡ fillAfter w (now (bytes .entry)) (offset .0) (len .0) (context .0) factor (delay .0) (delay .0)
+        (length (now (out .entry)) ∷ length (now (delayed .entry)) ∷ []) (delay .0) (now (delayed .entry)) ⌝ }
 {
     let none = Chars::new(0);
     let room = smaller(out.len(), delayed.len());
@@ -86,10 +90,14 @@ pub fn fill_delayed_2(
     out2: &mut [u32],
 ) -> Filled
     requires { ⌜ IsWidth w ⌝ }
-    ensures answer { λ r. ⌜ filledSays r ≡ fillAnswer w (now (bytes .entry)) (offset .0) (len .0) (context .0) factor (first .0) (second .0) (length (now (out .entry)) ∷ length (now (out1 .entry)) ∷ length (now (out2 .entry)) ∷ []) ⌝ }
-    ensures out { λ _. ⌜ now (out .exit) ≡ fillAfter w (now (bytes .entry)) (offset .0) (len .0) (context .0) factor 0 (fillOutcome w (now (bytes .entry)) (offset .0) (len .0) (context .0) factor (first .0) (second .0) (length (now (out .entry)) ∷ length (now (out1 .entry)) ∷ length (now (out2 .entry)) ∷ [])) (now (out .entry)) ⌝ }
-    ensures out1 { λ _. ⌜ now (out1 .exit) ≡ fillAfter w (now (bytes .entry)) (offset .0) (len .0) (context .0) factor (first .0) (fillOutcome w (now (bytes .entry)) (offset .0) (len .0) (context .0) factor (first .0) (second .0) (length (now (out .entry)) ∷ length (now (out1 .entry)) ∷ length (now (out2 .entry)) ∷ [])) (now (out1 .entry)) ⌝ }
-    ensures out2 { λ _. ⌜ now (out2 .exit) ≡ fillAfter w (now (bytes .entry)) (offset .0) (len .0) (context .0) factor (second .0) (fillOutcome w (now (bytes .entry)) (offset .0) (len .0) (context .0) factor (first .0) (second .0) (length (now (out .entry)) ∷ length (now (out1 .entry)) ∷ length (now (out2 .entry)) ∷ [])) (now (out2 .entry)) ⌝ }
+    ensures answer { λ r. ⌜ filledSays r ≡ fillAnswer w (now (bytes .entry)) (offset .0) (len .0) (context .0) factor (first .0) (second .0)
+        (length (now (out .entry)) ∷ length (now (out1 .entry)) ∷ length (now (out2 .entry)) ∷ []) ⌝ }
+    ensures out { λ _. ⌜ now (out .exit) ≡ fillAfter w (now (bytes .entry)) (offset .0) (len .0) (context .0) factor (first .0) (second .0)
+        (length (now (out .entry)) ∷ length (now (out1 .entry)) ∷ length (now (out2 .entry)) ∷ []) 0 (now (out .entry)) ⌝ }
+    ensures out1 { λ _. ⌜ now (out1 .exit) ≡ fillAfter w (now (bytes .entry)) (offset .0) (len .0) (context .0) factor (first .0) (second .0)
+        (length (now (out .entry)) ∷ length (now (out1 .entry)) ∷ length (now (out2 .entry)) ∷ []) (first .0) (now (out1 .entry)) ⌝ }
+    ensures out2 { λ _. ⌜ now (out2 .exit) ≡ fillAfter w (now (bytes .entry)) (offset .0) (len .0) (context .0) factor (first .0) (second .0)
+        (length (now (out .entry)) ∷ length (now (out1 .entry)) ∷ length (now (out2 .entry)) ∷ []) (second .0) (now (out2 .entry)) ⌝ }
 {
     let none = Chars::new(0);
     let room = smaller(smaller(out.len(), out1.len()), out2.len());

@@ -8,8 +8,11 @@ use codes::units::Chars;
 use lanes::inner::eight::lanes_at;
 use lanes::inner::shapes::plan_of;
 ghost use mathlib.Core.Path.{_≡_};
-ghost use Rattle.codes.specs.Codes.{IsWidth};
+ghost use lib.ListN.{replicate};
+ghost use Rattle.codes.specs.Codes.{IsWidth, chars};
+ghost use Rattle.codes.specs.Refusals.{ifDone};
 ghost use Rattle.codes.specs.declared.refusals.Outcome.the-variants.{Done};
+ghost use Rattle.lanes.specs.Lanes.{lane, lanes};
 ghost use Rattle.streams.specs.Streams.{stepOutcome, stepLanes};
 
 // The lanes of a step whose outcome is known.
@@ -26,7 +29,8 @@ fn step_lanes(
 ) -> [u32; 8]
     requires { ⌜ IsWidth w ⌝ }
     requires { ⌜ (outcome ≡ Done → stepOutcome w (now bytes) (offset .0) (len .0) (context .0) factor 0 0 j ≡ Done) ⌝ }
-    ensures { λ r. ⌜ r ≡ stepLanes w (now (bytes .entry)) (offset .0) (len .0) (context .0) factor (d .0) j outcome ⌝ }
+    ensures { λ r. ⌜ r ≡ ifDone outcome
+        (lanes (chars w (now (bytes .entry)) (offset .0) (len .0)) (lane w (len .0) (context .0) factor) (d .0) j) (replicate 8 0) ⌝ }
 {
     match outcome {
         Outcome::Refused(_) => [0; 8],
@@ -49,7 +53,7 @@ pub fn step(
 ) -> Stepped
     requires { ⌜ IsWidth w ⌝ }
     ensures outcome { λ r. ⌜ r .outcome ≡ stepOutcome w (now (bytes .entry)) (offset .0) (len .0) (context .0) factor 0 0 j ⌝ }
-    ensures lanes { λ r. ⌜ r .lanes ≡ stepLanes w (now (bytes .entry)) (offset .0) (len .0) (context .0) factor 0 j (r .outcome) ⌝ }
+    ensures lanes { λ r. ⌜ r .lanes ≡ stepLanes w (now (bytes .entry)) (offset .0) (len .0) (context .0) factor 0 0 j 0 ⌝ }
 {
     let none = Chars::new(0);
     let outcome = step_outcome(w, bytes, offset, len, context, factor, none, none, j);
@@ -69,8 +73,8 @@ pub fn step_delayed(
 ) -> SteppedOnce
     requires { ⌜ IsWidth w ⌝ }
     ensures outcome { λ r. ⌜ r .outcome ≡ stepOutcome w (now (bytes .entry)) (offset .0) (len .0) (context .0) factor (delay .0) (delay .0) j ⌝ }
-    ensures lanes { λ r. ⌜ r .lanes ≡ stepLanes w (now (bytes .entry)) (offset .0) (len .0) (context .0) factor 0 j (r .outcome) ⌝ }
-    ensures delayed { λ r. ⌜ r .delayed ≡ stepLanes w (now (bytes .entry)) (offset .0) (len .0) (context .0) factor (delay .0) j (r .outcome) ⌝ }
+    ensures lanes { λ r. ⌜ r .lanes ≡ stepLanes w (now (bytes .entry)) (offset .0) (len .0) (context .0) factor (delay .0) (delay .0) j 0 ⌝ }
+    ensures delayed { λ r. ⌜ r .delayed ≡ stepLanes w (now (bytes .entry)) (offset .0) (len .0) (context .0) factor (delay .0) (delay .0) j (delay .0) ⌝ }
 {
     let none = Chars::new(0);
     let outcome = step_outcome(w, bytes, offset, len, context, factor, delay, delay, j);
@@ -96,9 +100,9 @@ pub fn step_delayed_2(
 ) -> SteppedTwice
     requires { ⌜ IsWidth w ⌝ }
     ensures outcome { λ r. ⌜ r .outcome ≡ stepOutcome w (now (bytes .entry)) (offset .0) (len .0) (context .0) factor (first .0) (second .0) j ⌝ }
-    ensures lanes { λ r. ⌜ r .lanes ≡ stepLanes w (now (bytes .entry)) (offset .0) (len .0) (context .0) factor 0 j (r .outcome) ⌝ }
-    ensures first { λ r. ⌜ r .first ≡ stepLanes w (now (bytes .entry)) (offset .0) (len .0) (context .0) factor (first .0) j (r .outcome) ⌝ }
-    ensures second { λ r. ⌜ r .second ≡ stepLanes w (now (bytes .entry)) (offset .0) (len .0) (context .0) factor (second .0) j (r .outcome) ⌝ }
+    ensures lanes { λ r. ⌜ r .lanes ≡ stepLanes w (now (bytes .entry)) (offset .0) (len .0) (context .0) factor (first .0) (second .0) j 0 ⌝ }
+    ensures first { λ r. ⌜ r .first ≡ stepLanes w (now (bytes .entry)) (offset .0) (len .0) (context .0) factor (first .0) (second .0) j (first .0) ⌝ }
+    ensures second { λ r. ⌜ r .second ≡ stepLanes w (now (bytes .entry)) (offset .0) (len .0) (context .0) factor (first .0) (second .0) j (second .0) ⌝ }
 {
     let none = Chars::new(0);
     let outcome = step_outcome(w, bytes, offset, len, context, factor, first, second, j);

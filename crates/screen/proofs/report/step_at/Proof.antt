@@ -1,6 +1,7 @@
 -- What `step` ensures of its parts. Assumes nothing.
+use mathlib.Core.List.{List}
 use mathlib.Core.Path.{_≡_}
-use Prim.Native.Nat.{_-_}
+use Prim.Native.Nat.{ℕ, _-_}
 use native.Mathlib.Omega.{arith}
 use lib.ListN.{length, take, drop, length-drop}
 use lib.Seq.{length-take-le}
@@ -39,9 +40,11 @@ returns c =
     let a = c .before .before .before .before .before .before .before .before .before .before .args in
     let n = length (a .part .now) - a .at in
     let m = length (a .text .now) - a .from in
-    let p : length (take n (drop (a .at) (a .part .now))) ≡ n = length-take-le n (drop (a .at) (a .part .now)) (omega (arith, length-drop (a .at) (a .part .now))) in
-    let t : length (take m (drop (a .from) (a .text .now))) ≡ m = length-take-le m (drop (a .from) (a .text .now)) (omega (arith, length-drop (a .from) (a .text .now))) in
-    let b = answer-bounded (a .reader) (take n (drop (a .at) (a .part .now))) (a .bases .now) (a .flags .now) (take m (drop (a .from) (a .text .now))) (c .before .before .step .result) e (omega arith) (omega arith) in
+    let part : List ℕ = drop (a .at) (a .part .now) in
+    let text : List ℕ = drop (a .from) (a .text .now) in
+    let p : length (take n part) ≡ n = length-take-le n part (omega (arith, length-drop (a .at) (a .part .now))) in
+    let t : length (take m text) ≡ m = length-take-le m text (omega (arith, length-drop (a .from) (a .text .now))) in
+    let b = answer-bounded (a .reader) (take n part) (a .bases .now) (a .flags .now) (take m text) (c .before .before .step .result) e (omega arith) (omega arith) in
     (b .0, (omega (arith, b .1), omega (arith, b .2)))
 
 pub step-at-spec : {M : Type 1} → statement M

@@ -19,7 +19,7 @@ enum-known-refusal c = search needs
 enum-told : tie.Need-enum-told
 enum-told c = search needs
 
-done : (c : tie.After-enum-told) → pairOutcome (c .before .before .before .before .before .args .w) (c .before .before .before .before .before .args .a .now) (c .before .before .before .before .before .args .ao .0) (c .before .before .before .before .before .args .al .0) (c .before .before .before .before .before .args .b .now) (c .before .before .before .before .before .args .bo .0) (c .before .before .before .before .before .args .bl .0) ≡ Done
+done : (c : tie.After-enum-told) → let a = c .before .before .before .before .before .args in pairOutcome (a .w) (a .a .now) (a .ao .0) (a .al .0) (a .b .now) (a .bo .0) (a .bl .0) ≡ Done
 done c = sym (c .before .before .pair-outcome .ensures) ∙ c .enum-told .given .1
 
 lcp-requires : tie.Need-lcp-requires
@@ -33,17 +33,13 @@ new-requires c κs = search needs
 
 returns : tie.Need-returns
 unfolding compared
-returns c =
-    let s = c .before .before .before in
-    let a = s .before .before .before .args in
-    answer-refused (pairOutcome (a .w) (a .a .now) (a .ao .0) (a .al .0) (a .b .now) (a .bo .0) (a .bl .0)) (c .before .refusal .given .0 .0) _ (pos 0, 0) (sym (s .pair-outcome .ensures) ∙ c .before .refusal .given .1)
+returns c = answer-refused _ _ _ (pos 0, 0) (sym (c .before .before .before .pair-outcome .ensures) ∙ c .before .refusal .given .1)
 
 returns-2 : tie.Need-returns-2
 unfolding compared
 returns-2 c =
-    let s = c .before .before .before in
-    let a = s .before .before .before .before .before .args in
-    answer-done (pairOutcome (a .w) (a .a .now) (a .ao .0) (a .al .0) (a .b .now) (a .bo .0) (a .bl .0)) _ _ (pos 0, 0) (done s) (ap₂ (λ (o : Order) (n : ℕ). (orderNumber o, n)) (c .before .order-at .ensures) (c .new .ensures ∙ c .before .before .lcp .ensures))
+    answer-done _ _ _ (pos 0, 0) (done (c .before .before .before))
+    (ap₂ (λ (o : Order) (n : ℕ). (orderNumber o, n)) (c .before .order-at .ensures) (c .new .ensures ∙ c .before .before .lcp .ensures))
 
 pub cmp-lcp-spec : {M : Type 1} → statement M
 cmp-lcp-spec =

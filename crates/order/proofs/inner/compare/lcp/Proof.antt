@@ -20,16 +20,18 @@ count-requires-4 c κs = search needs
 
 lcp-words-requires : tie.Need-lcp-words-requires
 lcp-words-requires c κs =
-    let s = c .before .before .before .before .before .before in
+    let n = c .before .before .before in
+    let s = n .before .before .before in
     let a = s .args in
-    (s .pre .0, (λ i. pairOutcome (a .w) (a .a .now) (c .before .before .before .count .ensures i) (c .before .before .count2 .ensures i) (a .b .now) (c .before .count3 .ensures i) (c .count4 .ensures i)) ∙ s .pre .1)
+    (s .pre .0, (λ i. pairOutcome (a .w) (a .a .now) (n .count .ensures i) (c .before .before .count2 .ensures i) (a .b .now) (c .before .count3 .ensures i) (c .count4 .ensures i)) ∙ s .pre .1)
 
 returns : tie.Need-returns
 returns c =
     let k = c .before in
-    let a = k .before .before .before .before .before .before .args in
+    let n = k .before .before in
+    let a = n .before .before .before .before .args in
     c .lcp-words .ensures
-    ∙ (λ i. common (chars (a .w) (a .a .now) (k .before .before .before .count .ensures i) (k .before .before .count2 .ensures i)) (chars (a .w) (a .b .now) (k .before .count3 .ensures i) (k .count4 .ensures i)))
+    ∙ (λ i. common (chars (a .w) (a .a .now) (n .before .count .ensures i) (n .count2 .ensures i)) (chars (a .w) (a .b .now) (k .before .count3 .ensures i) (k .count4 .ensures i)))
 
 pub lcp-spec : {M : Type 1} → statement M
 lcp-spec =

@@ -23,7 +23,7 @@ abbrev μ-loop : tie.MeasureT-loop
 μ-loop w a ao al b bo bl n turn p₀ q₀ i₀ p q i = n - i
 
 two : (c : tie.After-smaller Inv-loop μ-loop)
-    → Two (c .before .before .before .args .w) (c .before .before .before .args .a .now) (c .before .before .before .args .ao) (c .before .before .before .args .al) (c .before .before .before .args .b .now) (c .before .before .before .args .bo) (c .before .before .before .args .bl) (c .smaller .result)
+    → let a = c .before .before .before .args in Two (a .w) (a .a .now) (a .ao) (a .al) (a .b .now) (a .bo) (a .bl) (c .smaller .result)
 two c =
     let s = c .before .before .before in
     let a = s .args in

@@ -1,4 +1,5 @@
 -- A shift divides by the characters of a byte, and a mask gives the rest. Assumes nothing.
+use mathlib.Core.List.{List}
 use mathlib.Core.Path.{_≡_, sym, ap, _∙_, subst}
 use Prim.Native.Nat.{ℕ, _-_, _*_, _/_, _%_, _^_, _<_}
 use native.Mathlib.Nat.{mod-lt, one-mul}
@@ -30,16 +31,22 @@ sub-digit : tie.Need-sub-digit
 sub-digit c = rw (one c) (pow-pos (c .before .before .args .shift))
 
 digit-requires : tie.Need-digit-requires
-digit-requires c κs = let s = c .before .before in (s .pre .0, rw (one c) (rw (and-mask (s .args .i) (s .args .shift)) (subst (λ (n : ℕ). s .args .i % n < per (s .args .w)) (sym (s .pre .1 .0 .1)) (mod-lt (s .args .i) (per-pos (s .pre .0))))))
+digit-requires c κs =
+    let s = c .before .before in
+    let i : ℕ = s .args .i in
+    let l = subst (λ (n : ℕ). i % n < per (s .args .w)) (sym (s .pre .1 .0 .1)) (mod-lt i (per-pos (s .pre .0))) in
+    (s .pre .0, rw (one c) (rw (and-mask i (s .args .shift)) l))
 
 returns : tie.Need-returns
 unfolding charAt
 returns c =
     let d = c .before in
-    let s = d .before .before in
+    let a = d .before .before .args in
+    let i : ℕ = a .i in
+    let bs : List ℕ = a .bytes .now in
     c .digit .ensures
-    ∙ ap (λ (e : ℕ). getD (s .args .bytes .now) (s .args .i / 2 ^ s .args .shift) 0 / 2 ^ (s .args .w * e) % 2 ^ s .args .w) (ap (λ (m : ℕ). bitAnd (s .args .i) (m - 1)) (one d) ∙ and-mask (s .args .i) (s .args .shift))
-    ∙ ap (λ (n : ℕ). getD (s .args .bytes .now) (s .args .i / n) 0 / 2 ^ (s .args .w * (s .args .i % n)) % 2 ^ s .args .w) (s .pre .1 .0 .1)
+    ∙ ap (λ (e : ℕ). getD bs (i / 2 ^ a .shift) 0 / 2 ^ (a .w * e) % 2 ^ a .w) (ap (λ (m : ℕ). bitAnd i (m - 1)) (one d) ∙ and-mask i (a .shift))
+    ∙ ap (λ (n : ℕ). getD bs (i / n) 0 / 2 ^ (a .w * (i % n)) % 2 ^ a .w) (d .before .before .pre .1 .0 .1)
 
 pub char-by-spec : {M : Type 1} → statement M
 char-by-spec =

@@ -19,7 +19,12 @@ use Rattle.order.proofs.inner.find.find_at.Tie as tie
 
 abbrev Inv-loop : tie.InvT-loop
 Inv-loop w p po pl t to tl shift last answer₀ at₀ i₀ answer at i =
-    (at ≡ at₀) × (i ≤ pl) × (at ≤ last) × ((k : ℕ) → k < i → charAt w t (to + (at + k)) ≡ charAt w p (po + k)) × ((j : ℕ) → j < at → Stands w p po pl t to tl j → ⊥) × (answer ≡ Absent)
+    (at ≡ at₀)
+    × (i ≤ pl)
+    × (at ≤ last)
+    × ((k : ℕ) → k < i → charAt w t (to + (at + k)) ≡ charAt w p (po + k))
+    × ((j : ℕ) → j < at → Stands w p po pl t to tl j → ⊥)
+    × (answer ≡ Absent)
 
 abbrev μ-loop : tie.MeasureT-loop
 μ-loop w p po pl t to tl shift last answer₀ at₀ i₀ answer at i = pl - i
@@ -31,7 +36,9 @@ abbrev μ-places : tie.MeasureT-places
 μ-places w p po pl t to tl shift last answer₀ at₀ answer at = last + 1 - at
 
 returns : tie.Need-returns Inv-loop μ-loop Inv-places μ-places
-returns c = found-none (c .before .before .before .args .w) (c .before .before .before .args .p .now) (c .before .before .before .args .po) (c .before .before .before .args .pl) (c .before .before .before .args .t .now) (c .before .before .before .args .to) (c .before .before .before .args .tl) (λ j st. omega (arith, st .0))
+returns c =
+    let a = c .before .before .before .args in
+    found-none (a .w) (a .p .now) (a .po) (a .pl) (a .t .now) (a .to) (a .tl) (λ j st. omega (arith, st .0))
 
 shift-of-requires : tie.Need-shift-of-requires Inv-loop μ-loop Inv-places μ-places
 shift-of-requires c κs = c .before .before .before .pre .0
@@ -46,11 +53,15 @@ new-requires : tie.Need-new-requires Inv-loop μ-loop Inv-places μ-places
 new-requires c κs = search needs
 
 -- the text and the pattern are small, and the characters at hand are theirs
-text-small : (c : tie.Else2 Inv-loop μ-loop Inv-places μ-places) → (length (c .before .before .before .before .before .before .before .before .args .t .now) * per (c .before .before .before .before .before .before .before .before .args .w) ≤ 2 ^ 31) × (c .before .before .before .before .before .before .before .before .args .to + (c .before .loop .at + c .before .loop .i) < length (c .before .before .before .before .before .before .before .before .args .t .now) * per (c .before .before .before .before .before .before .before .before .args .w))
-text-small c = (chars-bound (c .before .before .before .before .before .before .before .before .pre .0) (length (c .before .before .before .before .before .before .before .before .args .t .now)) (c .before .before .before .before .before .before .before .before .pre .1 .1 .1), omega (arith, c .before .before .before .before .before .before .before .before .pre .1 .1 .0))
+module _ (c : tie.Else2 Inv-loop μ-loop Inv-places μ-places) where
+  abbrev start : tie.Start Inv-loop μ-loop Inv-places μ-places
+  start = c .before .before .before .before .before .before .before .before
 
-pattern-small : (c : tie.Else2 Inv-loop μ-loop Inv-places μ-places) → (length (c .before .before .before .before .before .before .before .before .args .p .now) * per (c .before .before .before .before .before .before .before .before .args .w) ≤ 2 ^ 31) × (c .before .before .before .before .before .before .before .before .args .po + c .before .loop .i < length (c .before .before .before .before .before .before .before .before .args .p .now) * per (c .before .before .before .before .before .before .before .before .args .w))
-pattern-small c = (chars-bound (c .before .before .before .before .before .before .before .before .pre .0) (length (c .before .before .before .before .before .before .before .before .args .p .now)) (c .before .before .before .before .before .before .before .before .pre .1 .0 .1), omega (arith, c .before .before .before .before .before .before .before .before .pre .1 .0 .0))
+  text-small : let a = start .args in (length (a .t .now) * per (a .w) ≤ 2 ^ 31) × (a .to + (c .before .loop .at + c .before .loop .i) < length (a .t .now) * per (a .w))
+  text-small = (chars-bound (start .pre .0) (length (start .args .t .now)) (start .pre .1 .1 .1), omega (arith, start .pre .1 .1 .0))
+
+  pattern-small : let a = start .args in (length (a .p .now) * per (a .w) ≤ 2 ^ 31) × (a .po + c .before .loop .i < length (a .p .now) * per (a .w))
+  pattern-small = (chars-bound (start .pre .0) (length (start .args .p .now)) (start .pre .1 .0 .1), omega (arith, start .pre .1 .0 .0))
 
 add-char-by : tie.Need-add-char-by Inv-loop μ-loop Inv-places μ-places
 add-char-by c = omega (arith, text-small c)
@@ -59,13 +70,17 @@ add-char-by-2 : tie.Need-add-char-by-2 Inv-loop μ-loop Inv-places μ-places
 add-char-by-2 c = omega (arith, text-small c)
 
 char-by-requires : tie.Need-char-by-requires Inv-loop μ-loop Inv-places μ-places
-char-by-requires c κs = let s = c .before .before .before .before .before .before .before .before in (s .pre .0, (c .before .before .before .before .shift-of .ensures, div-lt-iff-lt-mul (per-pos (s .pre .0)) .1 (omega (arith, text-small c))))
+char-by-requires c κs =
+    let W = start c .pre .0 in
+    (W, (c .before .before .before .before .shift-of .ensures, div-lt-iff-lt-mul (per-pos W) .1 (omega (arith, text-small c))))
 
 add-char-by-3 : tie.Need-add-char-by-3 Inv-loop μ-loop Inv-places μ-places
 add-char-by-3 c = omega (arith, pattern-small (c .before))
 
 char-by-requires-2 : tie.Need-char-by-requires-2 Inv-loop μ-loop Inv-places μ-places
-char-by-requires-2 c κs = let s = c .before .before .before .before .before .before .before .before .before in (s .pre .0, (c .before .before .before .before .before .shift-of .ensures, div-lt-iff-lt-mul (per-pos (s .pre .0)) .1 (omega (arith, pattern-small (c .before)))))
+char-by-requires-2 c κs =
+    let W = start (c .before) .pre .0 in
+    (W, (c .before .before .before .before .before .shift-of .ensures, div-lt-iff-lt-mul (per-pos W) .1 (omega (arith, pattern-small (c .before)))))
 
 add-at : tie.Need-add-at Inv-loop μ-loop Inv-places μ-places
 add-at c = search needs
@@ -74,7 +89,12 @@ places-less : tie.Need-places-less Inv-loop μ-loop Inv-places μ-places
 places-less c = search needs
 
 places-again : tie.Need-places-again Inv-loop μ-loop Inv-places μ-places
-places-again c = (search needs, below-more _ _ (c .before .before .before .before .loop .inv .4) (λ st. c .if3 .taken (c .before .before .char-by .ensures ∙ (st .1 (c .before .before .before .before .loop .i) (omega arith) ∙ sym (c .before .char-by2 .ensures)))), c .before .before .before .before .loop .inv .5)
+places-again c =
+    let l = c .before .before .before .before .loop in (
+      search needs,
+      below-more _ _ (l .inv .4) (λ st. c .if3 .taken (c .before .before .char-by .ensures ∙ (st .1 (l .i) (omega arith) ∙ sym (c .before .char-by2 .ensures)))),
+      l .inv .5,
+    )
 
 add-i : tie.Need-add-i Inv-loop μ-loop Inv-places μ-places
 add-i c = search needs
@@ -83,16 +103,29 @@ loop-less : tie.Need-loop-less Inv-loop μ-loop Inv-places μ-places
 loop-less c = search needs
 
 loop-again : tie.Need-loop-again Inv-loop μ-loop Inv-places μ-places
-loop-again c = (search needs, search needs, search needs, below-more _ _ (c .before .before .before .before .loop .inv .3) (sym (c .before .before .char-by .ensures) ∙ (c .if3 .left ∙ c .before .char-by2 .ensures)), c .before .before .before .before .loop .inv .4, c .before .before .before .before .loop .inv .5)
+loop-again c =
+    let l = c .before .before .before .before .loop in (
+      search needs,
+      search needs,
+      search needs,
+      below-more _ _ (l .inv .3) (sym (c .before .before .char-by .ensures) ∙ (c .if3 .left ∙ c .before .char-by2 .ensures)),
+      l .inv .4,
+      l .inv .5,
+    )
 
 returns-2 : tie.Need-returns-2 Inv-loop μ-loop Inv-places μ-places
-returns-2 c = ap foundSays (c .before .places .inv .2) ∙ found-none (c .before .before .before .before .before .before .args .w) (c .before .before .before .before .before .before .args .p .now) (c .before .before .before .before .before .before .args .po) (c .before .before .before .before .before .before .args .pl) (c .before .before .before .before .before .before .args .t .now) (c .before .before .before .before .before .before .args .to) (c .before .before .before .before .before .before .args .tl) (λ j st. c .before .places .inv .1 j (omega (arith, st .0)) st)
+returns-2 c =
+    let p = c .before in
+    let a = p .before .before .before .before .before .args in
+    ap foundSays (p .places .inv .2)
+    ∙ found-none (a .w) (a .p .now) (a .po) (a .pl) (a .t .now) (a .to) (a .tl) (λ j st. p .places .inv .1 j (omega (arith, st .0)) st)
 
 returns-3 : tie.Need-returns-3 Inv-loop μ-loop Inv-places μ-places
 returns-3 c =
     let l = c .before .before .loop in
+    let a = c .before .before .before .before .before .before .before .before .before .args in
     ap (λ (k : ℕ). answer Done (true, k) (false, 0)) (c .new .ensures)
-    ∙ found-at (c .before .before .before .before .before .before .before .before .before .args .w) (c .before .before .before .before .before .before .before .before .before .args .p .now) (c .before .before .before .before .before .before .before .before .before .args .po) (c .before .before .before .before .before .before .before .before .before .args .pl) (c .before .before .before .before .before .before .before .before .before .args .t .now) (c .before .before .before .before .before .before .before .before .before .args .to) (c .before .before .before .before .before .before .before .before .before .args .tl) (l .at) (omega arith, λ k h. l .inv .3 k (omega arith)) (l .inv .4)
+    ∙ found-at (a .w) (a .p .now) (a .po) (a .pl) (a .t .now) (a .to) (a .tl) (l .at) (omega arith, λ k h. l .inv .3 k (omega arith)) (l .inv .4)
 
 pub find-at-spec : {M : Type 1} → statement M
 find-at-spec =

@@ -6,7 +6,6 @@ use native.Mathlib.Omega.{arith}
 use Rattle.codes.specs.Codes.{per, IsWidth}
 use Rattle.codes.proofs.WidthLaws.{width-pos}
 use borrow.Author.Needs.{needs}
-use Rattle.codes.specs.Codes.{per}
 use Rattle.order.proofs.inner.find.shift_of.Statement.{statement}
 use Rattle.order.proofs.inner.find.shift_of.Tie as tie
 

@@ -1,6 +1,6 @@
 -- The order decides whose part it is. Assumes nothing.
 use mathlib.Core.List.{[]}
-use mathlib.Core.Path.{_≡_, sym, ap, _∙_}
+use mathlib.Core.Path.{_≡_, sym, _∙_}
 use lib.ListN.{length}
 use Rattle.codes.specs.Codes.{pick}
 use Rattle.codes.specs.Refusals.{first}
@@ -26,11 +26,15 @@ slice-aggregate-result c = search needs
 enum-told-2 : tie.Need-enum-told-2
 enum-told-2 c = search needs
 
-done : (c : tie.After-enum-told2) → pairOutcome (c .before .before .before .before .before .args .w) (c .before .before .before .before .before .args .a .now) (c .before .before .before .before .before .args .ao .0) (c .before .before .before .before .before .args .al .0) (c .before .before .before .before .before .args .b .now) (c .before .before .before .before .before .args .bo .0) (c .before .before .before .before .before .args .bl .0) ≡ Done
+done : (c : tie.After-enum-told2) → let a = c .before .before .before .before .before .args in pairOutcome (a .w) (a .a .now) (a .ao .0) (a .al .0) (a .b .now) (a .bo .0) (a .bl .0) ≡ Done
 done c = sym (c .before .before .pair-outcome .ensures) ∙ c .enum-told2 .given .1
 
-views : (c : tie.After-enum-told2) → (first (viewTests (c .before .before .before .before .before .args .w) (length (c .before .before .before .before .before .args .a .now)) (c .before .before .before .before .before .args .ao .0) (c .before .before .before .before .before .args .al .0)) ≡ Done) × (first (viewTests (c .before .before .before .before .before .args .w) (length (c .before .before .before .before .before .args .b .now)) (c .before .before .before .before .before .args .bo .0) (c .before .before .before .before .before .args .bl .0)) ≡ Done)
-views c = pair-views (c .before .before .before .before .before .args .w) (length (c .before .before .before .before .before .args .a .now)) (c .before .before .before .before .before .args .ao .0) (c .before .before .before .before .before .args .al .0) (length (c .before .before .before .before .before .args .b .now)) (c .before .before .before .before .before .args .bo .0) (c .before .before .before .before .before .args .bl .0) (done c)
+views : (c : tie.After-enum-told2)
+    → let a = c .before .before .before .before .before .args in
+    (first (viewTests (a .w) (length (a .a .now)) (a .ao .0) (a .al .0)) ≡ Done) × (first (viewTests (a .w) (length (a .b .now)) (a .bo .0) (a .bl .0)) ≡ Done)
+views c =
+    let a = c .before .before .before .before .before .args in
+    pair-views (a .w) (length (a .a .now)) (a .ao .0) (a .al .0) (length (a .b .now)) (a .bo .0) (a .bl .0) (done c)
 
 order-of-requires : tie.Need-order-of-requires
 order-of-requires c κs = (c .before .before .before .before .before .pre, done c)
@@ -61,37 +65,24 @@ accepted-part-requires-3 c κs =
 
 returns : tie.Need-returns
 unfolding leastBytes
-returns c =
-    let s = c .before .before .before in
-    let a = s .before .before .before .args in
-    gives-refused (pairOutcome (a .w) (a .a .now) (a .ao .0) (a .al .0) (a .b .now) (a .bo .0) (a .bl .0)) _ _ [] (sym (s .pair-outcome .ensures) ∙ c .before .enum-told .given .1)
+returns c = gives-refused _ _ _ [] (sym (c .before .before .before .pair-outcome .ensures) ∙ c .before .enum-told .given .1)
+
+-- the part of the view that the order picks
+picked : (c : tie.After-order-of) (o : Order) → c .order-of .result ≡ o
+    → let a = c .before .before .before .before .before .before .args in
+    pick (isSecond o) (normalPart (a .w) (a .b .now) (a .bo .0) (a .bl .0)) (normalPart (a .w) (a .a .now) (a .ao .0) (a .al .0))
+    ≡ leastBytes (a .w) (a .a .now) (a .ao .0) (a .al .0) (a .b .now) (a .bo .0) (a .bl .0)
+unfolding leastBytes
+picked c o e = rw (sym e ∙ c .order-of .ensures) (gives-done _ _ [] (done (c .before)))
 
 returns-2 : tie.Need-returns-2
-unfolding leastBytes
-returns-2 c =
-    let s = c .before .before .before .before in
-    let a = s .before .before .before .before .before .args in
-    c .accepted-part .ensures
-    ∙ ap (λ (o : Order). pick (isSecond (a .w) (a .a .now) (a .ao .0) (a .al .0) (a .b .now) (a .bo .0) (a .bl .0) o) (normalPart (a .w) (a .b .now) (a .bo .0) (a .bl .0)) (normalPart (a .w) (a .a .now) (a .ao .0) (a .al .0))) (sym (c .before .enum-told3 .given .1) ∙ c .before .before .before .order-of .ensures)
-    ∙ gives-done (pairOutcome (a .w) (a .a .now) (a .ao .0) (a .al .0) (a .b .now) (a .bo .0) (a .bl .0)) _ [] (done s)
+returns-2 c = c .accepted-part .ensures ∙ picked (c .before .before .before) _ (c .before .enum-told3 .given .1)
 
 returns-3 : tie.Need-returns-3
-unfolding leastBytes
-returns-3 c =
-    let s = c .before .before .before .before in
-    let a = s .before .before .before .before .before .args in
-    c .accepted-part2 .ensures
-    ∙ ap (λ (o : Order). pick (isSecond (a .w) (a .a .now) (a .ao .0) (a .al .0) (a .b .now) (a .bo .0) (a .bl .0) o) (normalPart (a .w) (a .b .now) (a .bo .0) (a .bl .0)) (normalPart (a .w) (a .a .now) (a .ao .0) (a .al .0))) (sym (c .before .enum-told4 .given .1) ∙ c .before .before .before .order-of .ensures)
-    ∙ gives-done (pairOutcome (a .w) (a .a .now) (a .ao .0) (a .al .0) (a .b .now) (a .bo .0) (a .bl .0)) _ [] (done s)
+returns-3 c = c .accepted-part2 .ensures ∙ picked (c .before .before .before) _ (c .before .enum-told4 .given .1)
 
 returns-4 : tie.Need-returns-4
-unfolding leastBytes
-returns-4 c =
-    let s = c .before .before .before .before in
-    let a = s .before .before .before .before .before .args in
-    c .accepted-part3 .ensures
-    ∙ ap (λ (o : Order). pick (isSecond (a .w) (a .a .now) (a .ao .0) (a .al .0) (a .b .now) (a .bo .0) (a .bl .0) o) (normalPart (a .w) (a .b .now) (a .bo .0) (a .bl .0)) (normalPart (a .w) (a .a .now) (a .ao .0) (a .al .0))) (sym (c .before .enum-told5 .given .1) ∙ c .before .before .before .order-of .ensures)
-    ∙ gives-done (pairOutcome (a .w) (a .a .now) (a .ao .0) (a .al .0) (a .b .now) (a .bo .0) (a .bl .0)) _ [] (done s)
+returns-4 c = c .accepted-part3 .ensures ∙ picked (c .before .before .before) _ (c .before .enum-told5 .given .1)
 
 pub least-spec : {M : Type 1} → statement M
 least-spec =

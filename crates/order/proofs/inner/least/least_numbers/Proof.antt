@@ -2,6 +2,7 @@
 use mathlib.Core.Path.{_≡_, sym, ap, _∙_}
 use Prim.Native.Nat.{ℕ, _%_}
 use Rattle.codes.specs.Codes.{per, pick}
+use Rattle.codes.specs.Refusals.{answer}
 use Rattle.codes.specs.declared.refusals.Outcome.the-variants.{Done}
 use Rattle.order.specs.declared.answers.Order.{Order}
 use Rattle.order.specs.Order.{pairOutcome, isSecond, leastNumbers}
@@ -19,7 +20,7 @@ enum-known-refusal c = search needs
 enum-told : tie.Need-enum-told
 enum-told c = search needs
 
-done : (c : tie.After-enum-told) → pairOutcome (c .before .before .before .before .before .args .w) (c .before .before .before .before .before .args .a .now) (c .before .before .before .before .before .args .ao .0) (c .before .before .before .before .before .args .al .0) (c .before .before .before .before .before .args .b .now) (c .before .before .before .before .before .args .bo .0) (c .before .before .before .before .before .args .bl .0) ≡ Done
+done : (c : tie.After-enum-told) → let a = c .before .before .before .before .before .args in pairOutcome (a .w) (a .a .now) (a .ao .0) (a .al .0) (a .b .now) (a .bo .0) (a .bl .0) ≡ Done
 done c = sym (c .before .before .pair-outcome .ensures) ∙ c .enum-told .given .1
 
 order-of-requires : tie.Need-order-of-requires
@@ -45,37 +46,30 @@ within-byte-requires-3 c κs = search needs
 
 returns : tie.Need-returns
 unfolding leastNumbers
-returns c =
-    let s = c .before .before .before in
-    let a = s .before .before .before .args in
-    answer-refused (pairOutcome (a .w) (a .a .now) (a .ao .0) (a .al .0) (a .b .now) (a .bo .0) (a .bl .0)) (c .before .refusal .given .0 .0) _ (0, 0) (sym (s .pair-outcome .ensures) ∙ c .before .refusal .given .1)
+returns c = answer-refused _ _ _ (0, 0) (sym (c .before .before .before .pair-outcome .ensures) ∙ c .before .refusal .given .1)
+
+-- the numbers of the view that the order picks
+picked : (c : tie.After-order-of) (o : Order) → c .order-of .result ≡ o → (x : ℕ × ℕ)
+    → let a = c .before .before .before .before .before .before .args in
+    x ≡ pick (isSecond o) (a .bo .0 % per (a .w), a .bl .0) (a .ao .0 % per (a .w), a .al .0)
+    → answer Done x (0, 0) ≡ leastNumbers (a .w) (a .a .now) (a .ao .0) (a .al .0) (a .b .now) (a .bo .0) (a .bl .0)
+unfolding leastNumbers
+picked c o e x h = answer-done _ _ _ (0, 0) (done (c .before)) (rw (sym e ∙ c .order-of .ensures) at h)
 
 returns-2 : tie.Need-returns-2
-unfolding leastNumbers
 returns-2 c =
-    let s = c .before .before .before .before in
-    let a = s .before .before .before .before .before .args in
-    answer-done (pairOutcome (a .w) (a .a .now) (a .ao .0) (a .al .0) (a .b .now) (a .bo .0) (a .bl .0)) _ _ (0, 0) (done s)
-    (ap (λ (k : ℕ). (k, a .al .0)) (c .within-byte .ensures)
-    ∙ ap (λ (o : Order). pick (isSecond (a .w) (a .a .now) (a .ao .0) (a .al .0) (a .b .now) (a .bo .0) (a .bl .0) o) (a .bo .0 % per (a .w), a .bl .0) (a .ao .0 % per (a .w), a .al .0)) (sym (c .before .enum-told2 .given .1) ∙ c .before .before .before .order-of .ensures))
+    let s = c .before .before .before in
+    picked s _ (c .before .enum-told2 .given .1) _ (ap (λ (k : ℕ). (k, s .before .before .before .before .before .before .args .al .0)) (c .within-byte .ensures))
 
 returns-3 : tie.Need-returns-3
-unfolding leastNumbers
 returns-3 c =
-    let s = c .before .before .before .before in
-    let a = s .before .before .before .before .before .args in
-    answer-done (pairOutcome (a .w) (a .a .now) (a .ao .0) (a .al .0) (a .b .now) (a .bo .0) (a .bl .0)) _ _ (0, 0) (done s)
-    (ap (λ (k : ℕ). (k, a .al .0)) (c .within-byte2 .ensures)
-    ∙ ap (λ (o : Order). pick (isSecond (a .w) (a .a .now) (a .ao .0) (a .al .0) (a .b .now) (a .bo .0) (a .bl .0) o) (a .bo .0 % per (a .w), a .bl .0) (a .ao .0 % per (a .w), a .al .0)) (sym (c .before .enum-told3 .given .1) ∙ c .before .before .before .order-of .ensures))
+    let s = c .before .before .before in
+    picked s _ (c .before .enum-told3 .given .1) _ (ap (λ (k : ℕ). (k, s .before .before .before .before .before .before .args .al .0)) (c .within-byte2 .ensures))
 
 returns-4 : tie.Need-returns-4
-unfolding leastNumbers
 returns-4 c =
-    let s = c .before .before .before .before in
-    let a = s .before .before .before .before .before .args in
-    answer-done (pairOutcome (a .w) (a .a .now) (a .ao .0) (a .al .0) (a .b .now) (a .bo .0) (a .bl .0)) _ _ (0, 0) (done s)
-    (ap (λ (k : ℕ). (k, a .bl .0)) (c .within-byte3 .ensures)
-    ∙ ap (λ (o : Order). pick (isSecond (a .w) (a .a .now) (a .ao .0) (a .al .0) (a .b .now) (a .bo .0) (a .bl .0) o) (a .bo .0 % per (a .w), a .bl .0) (a .ao .0 % per (a .w), a .al .0)) (sym (c .before .enum-told4 .given .1) ∙ c .before .before .before .order-of .ensures))
+    let s = c .before .before .before in
+    picked s _ (c .before .enum-told4 .given .1) _ (ap (λ (k : ℕ). (k, s .before .before .before .before .before .before .args .bl .0)) (c .within-byte3 .ensures))
 
 pub least-numbers-spec : {M : Type 1} → statement M
 least-numbers-spec =

@@ -1,9 +1,10 @@
 -- The numbers are those of the plan. Assumes nothing.
 use mathlib.Core.List.{[], _∷_}
-use mathlib.Core.Path.{sym, _∙_}
+use mathlib.Core.Path.{_≡_, sym, _∙_}
 use Rattle.codes.specs.Refusals.{first}
+use Rattle.codes.specs.declared.refusals.Outcome.the-variants.{Done}
 use Rattle.codes.proofs.OutcomeLaws.{answer-done}
-use Rattle.lanes.specs.Lanes.{lane, padding, steps, badShape}
+use Rattle.lanes.specs.Lanes.{badShape}
 use Rattle.streams.specs.Streams.{shaped}
 use borrow.Author.Needs.{needs}
 use Rattle.streams.proofs.inner.shapes.shape.Statement.{statement}
@@ -16,8 +17,11 @@ returns : tie.Need-returns
 unfolding shaped
 returns c = rw (sym (c .before .bad-shape .ensures) ∙ c .if1 .taken)
 
+fine : (c : tie.Else1) → let a = c .before .before .args in first (badShape (a .context .0) (a .factor) ∷ []) ≡ Done
+fine c = rw (sym (c .before .bad-shape .ensures) ∙ c .if1 .left)
+
 plan-of-requires : tie.Need-plan-of-requires
-plan-of-requires c κs = (c .before .before .pre, rw (sym (c .before .bad-shape .ensures) ∙ c .if1 .left))
+plan-of-requires c κs = (c .before .before .pre, fine c)
 
 new-requires : tie.Need-new-requires
 new-requires c κs = search needs
@@ -28,11 +32,10 @@ new-requires-2 c κs = search needs
 returns-2 : tie.Need-returns-2
 unfolding shaped
 returns-2 c =
-    let s = c .before .before .before in
-    let a = s .before .before .args in
     let p = c .before .before .plan-of .ensures in
-    answer-done (first (badShape (a .context .0) (a .factor) ∷ [])) (c .before .new .result .0, c .new2 .result .0, c .before .before .plan-of .result .steps) (lane (a .w) (a .len .0) (a .context .0) (a .factor), padding (a .w) (a .len .0) (a .context .0) (a .factor), steps (a .w) (a .len .0) (a .context .0) (a .factor)) (0, 0, 0) (rw (sym (s .before .bad-shape .ensures) ∙ s .if1 .left))
-    (rw (c .before .new .ensures, c .new2 .ensures, p .lane, p .padding, p .steps))
+    let lane = c .before .new .ensures ∙ p .lane in
+    let padding = c .new2 .ensures ∙ p .padding in
+    answer-done _ _ _ (0, 0, 0) (fine (c .before .before .before)) (λ i. (lane i, padding i, p .steps i))
 
 pub shape-spec : {M : Type 1} → statement M
 shape-spec =

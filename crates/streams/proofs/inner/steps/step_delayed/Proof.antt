@@ -1,5 +1,7 @@
 -- The lanes are those of the outcome. Assumes nothing.
-use mathlib.Core.Path.{sym, _∙_}
+use mathlib.Core.Path.{_≡_, sym, _∙_}
+use Rattle.codes.specs.declared.refusals.Outcome.the-variants.{Done}
+use Rattle.streams.specs.Streams.{stepOutcome, stepLanes}
 use Rattle.streams.proofs.OpenLaws.{step-plain}
 use borrow.Author.Needs.{needs}
 use Rattle.streams.proofs.inner.steps.step_delayed.Statement.{statement}
@@ -11,17 +13,25 @@ new-requires c κs = search needs
 step-outcome-requires : tie.Need-step-outcome-requires
 step-outcome-requires c κs = search needs
 
+-- a step that is not refused is none where it is plain
+plain : (c : tie.After-step-outcome) → c .step-outcome .result ≡ Done
+    → let a = c .before .before .before .args in stepOutcome (a .w) (a .bytes .now) (a .offset .0) (a .len .0) (a .context .0) (a .factor) 0 0 (a .j) ≡ Done
+plain c e =
+    let a = c .before .before .before .args in
+    step-plain (a .w) (a .bytes .now) (a .offset .0) (a .len .0) (a .context .0) (a .factor) (a .delay .0) (a .delay .0) (a .j) (sym (c .step-outcome .ensures) ∙ e)
+
 step-lanes-requires : tie.Need-step-lanes-requires
-step-lanes-requires c κs =
-    let s = c .before .before .before in (s .pre, λ e. step-plain (s .args .w) (s .args .bytes .now) (s .args .offset .0) (s .args .len .0) (s .args .context .0) (s .args .factor) (s .args .delay .0) (s .args .delay .0) (s .args .j) (sym (c .step-outcome .ensures) ∙ e))
+step-lanes-requires c κs = (c .before .before .before .pre, plain c)
 
 step-lanes-requires-2 : tie.Need-step-lanes-requires-2
-step-lanes-requires-2 c κs =
-    let s = c .before .before .before .before in (s .pre, λ e. step-plain (s .args .w) (s .args .bytes .now) (s .args .offset .0) (s .args .len .0) (s .args .context .0) (s .args .factor) (s .args .delay .0) (s .args .delay .0) (s .args .j) (sym (c .before .step-outcome .ensures) ∙ e))
+step-lanes-requires-2 c κs = (c .before .before .before .before .pre, plain (c .before))
 
 returns : tie.Need-returns
+unfolding stepLanes
 returns c =
-    (c .before .before .step-outcome .ensures, (rw (← c .before .before .before .new .ensures) (c .before .step-lanes .ensures), c .step-lanes2 .ensures))
+    let s = c .before .before in
+    let o = s .step-outcome .ensures in
+    (o, (rw (← o) (rw (s .before .new .ensures) at (c .before .step-lanes .ensures)), rw (← o) (c .step-lanes2 .ensures)))
 
 pub step-delayed-spec : {M : Type 1} → statement M
 step-delayed-spec =
