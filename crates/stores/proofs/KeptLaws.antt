@@ -60,6 +60,8 @@ module _ {w : ℕ} (W : IsWidth w) where
       unfolding after
       char-by c i h = by-outcome (λ o. charAt w (bufferAfter w bs (ifDone o (deed w len c) still)) i ≡ charAt w bs i) (outcome w (length bs) len c) h (λ r e. refl)
 
-      pub char-kept : (c : Call) (i : ℕ) → i < len → i < answered w (length bs) len c .values .2 → (Overwrites c i → ⊥) → charAt w (after w bs len c) i ≡ charAt w bs i
+      -- a character below the old and the new length that no call which is done overwrites
+      pub char-kept : (c : Call) (i : ℕ) → i < len → i < answered w (length bs) len c .values .2 → (Done ≡ outcome w (length bs) len c → Overwrites c i → ⊥)
+          → charAt w (after w bs len c) i ≡ charAt w bs i
       unfolding answered
-      char-kept c i l m h = char-by c i (λ e. deed-char c i l (rw (sym e) at m) h)
+      char-kept c i l m h = char-by c i (λ e. deed-char c i l (rw (sym e) at m) (h e))

@@ -1,5 +1,5 @@
--- Windows of flags, for k from 1 to 96. A window of k flags that lies in the track before and after a call, and holds no
--- overwritten position, keeps its answer. After a clear that is accepted and any calls, every window's answer is that of the
+-- Windows of flags, for k from 1 to 96. A window of k flags that lies in the track before and after a call, and holds no position
+-- that a call which is done overwrites, keeps its answer. After a clear that is accepted and any calls, every window's answer is that of the
 -- flags which the calls alone give.
 -- Assumes nothing.
 use mathlib.Core.List.{List, []}
@@ -31,7 +31,8 @@ window-same f g p k a b h =
     let j : i < k = omega arith in
     getD-take k (drop p f) i 0 j ∙ getD-drop p f i 0 ∙ h (p + i) (omega arith) (omega arith) ∙ sym (getD-take k (drop p g) i 0 j ∙ getD-drop p g i 0)))
 
-pub windows-kept : (s : Store) (c : Call) (p k : ℕ) → 1 ≤ k → k ≤ 96 → p + k ≤ s .len → p + k ≤ step 1 s c .len → ((i : ℕ) → p ≤ i → i < p + k → Overwrites c i → ⊥)
+pub windows-kept : (s : Store) (c : Call) (p k : ℕ) → 1 ≤ k → k ≤ 96 → p + k ≤ s .len → p + k ≤ step 1 s c .len
+    → ((i : ℕ) → p ≤ i → i < p + k → Done ≡ outcome 1 (length (s .bytes)) (s .len) c → Overwrites c i → ⊥)
     → window (flagsOf (step 1 s c)) p k ≡ window (flagsOf s) p k
 windows-kept s c p k lo hi a b h =
     let t : Store = step 1 s c in

@@ -71,8 +71,12 @@ stepState flags n k s = record { counts = tab 8 (λ l. summed flags n s l - leav
 abbrev pub windowTests : List ℕ → ℕ → ℕ → ℕ → ℕ → List Test
 windowTests bs o len c k = viewTests 1 (length bs) o len ++ badShape c 1 ∷ badWindow k ∷ []
 
+-- filling windows over so many flags from `skip` on, into a buffer of m entries
+abbrev pub fillTests : ℕ → ℕ → ℕ → ℕ → ℕ → List Test
+fillTests len c k skip m = badShape c 1 ∷ badWindow k ∷ badSkip (steps 1 len c 1) skip ∷ noRoom m (8 * (steps 1 len c 1 - skip)) ∷ []
+
 unfoldable pub windowsOutcome : List ℕ → ℕ → ℕ → ℕ → ℕ → ℕ → ℕ → Outcome
-windowsOutcome bs o len c k skip m = first (windowTests bs o len c k ++ badSkip (steps 1 len c 1) skip ∷ noRoom m (8 * (steps 1 len c 1 - skip)) ∷ [])
+windowsOutcome bs o len c k skip m = first (viewTests 1 (length bs) o len ++ fillTests len c k skip m)
 
 unfoldable pub windowsAnswer : List ℕ → ℕ → ℕ → ℕ → ℕ → ℕ → ℕ → Answer (ℕ × ℕ)
 unfolding windowsOutcome
@@ -83,9 +87,12 @@ unfolding windowsOutcome
 windowsAfter bs o len c k skip out =
     ifDone (windowsOutcome bs o len c k skip (length out)) (windowsFilled (chars 1 bs o len) (lane 1 len c 1) k skip (steps 1 len c 1 - skip) out) out
 
+-- one step over flags, so many
+abbrev pub runTests : List ℕ → ℕ → ℕ → ℕ → Running → List Test
+runTests flags len c k s = badShape c 1 ∷ badWindow k ∷ badStep (steps 1 len c 1) (s .at) ∷ badState flags (lane 1 len c 1) k s ∷ []
+
 unfoldable pub runOutcome : List ℕ → ℕ → ℕ → ℕ → ℕ → Running → Outcome
-runOutcome bs o len c k s =
-    first (windowTests bs o len c k ++ badStep (steps 1 len c 1) (s .at) ∷ badState (chars 1 bs o len) (lane 1 len c 1) k s ∷ [])
+runOutcome bs o len c k s = first (viewTests 1 (length bs) o len ++ runTests (chars 1 bs o len) len c k s)
 
 -- refused, zero answers, zero counts and step 0
 unfoldable pub runAnswers : List ℕ → ℕ → ℕ → ℕ → ℕ → Running → List ℕ
