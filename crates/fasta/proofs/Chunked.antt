@@ -53,7 +53,7 @@ module _ (bases flags : List ℕ) (size : Sized bases flags) (reader : Reader) (
   goes true = goes-none
   goes false = (next-bounded reader part bases flags .used, next-onward bases flags size reader part)
 
-sized-after : (bases flags : List ℕ) → Sized bases flags → (reader : Reader) (p : List ℕ) → Sized (trackAfter 2 reader p bases) (trackAfter 1 reader p flags)
+pub sized-after : (bases flags : List ℕ) → Sized bases flags → (reader : Reader) (p : List ℕ) → Sized (trackAfter 2 reader p bases) (trackAfter 1 reader p flags)
 sized-after bases flags size reader p = record { bases = track-length 2 reader p bases ∙ size .bases; flags = track-length 1 reader p flags ∙ size .flags }
 
 last-says : (reader : Reader) (bases flags out : List ℕ) → 96 ≤ length out → (s : State) → Reads reader bases flags s → recordsBefore s + 1 < 2 ^ 64 → lastLines reader bases flags out ≡ rest s []
