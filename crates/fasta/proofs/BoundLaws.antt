@@ -140,7 +140,7 @@ pub closed-length : (k : Record) (bases flags : List ℕ) → length (closed k b
 unfolding closed
 closed-length k bases flags = omega (arith, length-append (rowFrom k bases flags) (totalOf (ordinal k)), row-from-length k bases flags, total-length (ordinal k))
 
-ending-length : (reader : Reader) (bases flags : List ℕ) → length (ending reader bases flags) ≤ 92
+pub ending-length : (reader : Reader) (bases flags : List ℕ) → length (ending reader bases flags) ≤ 92
 ending-length Reader.Start bases flags = omega (arith, total-length 0)
 ending-length (Reader.Header i) bases flags = closed-length (opened i) bases flags
 ending-length (Reader.Fresh k) bases flags = closed-length k bases flags

@@ -13,5 +13,7 @@ pub mod LeadLaws
 pub mod CaseLaws
 pub mod StepLaws
 pub mod FinishLaws
+pub mod FeedLaws
 pub mod Chunked
+pub mod Collected
 pub mod Decided
