@@ -15,7 +15,8 @@ use Rattle.codes.specs.declared.refusals.Outcome.the-variants.{Done}
 use Rattle.codes.proofs.CharLaws.{chars-ext}
 use Rattle.codes.proofs.OutcomeLaws.{passed, first-both}
 use Rattle.codes.proofs.WidthLaws.{per-pos, up-hi, up-mono, up-whole, less-48, chars-bound}
-use Rattle.fields.specs.Fields.{viewTests, sliceTests, normalPart}
+use Rattle.fields.specs.Fields.{viewTests, sliceTests}
+use Rattle.fields.specs.Spans.{Span, normalPart}
 
 -- an accepted view of n bytes: they are not too many, and reach 48 beyond the characters
 pub record Room (w n o len : ℕ) : Type 0 where
@@ -50,8 +51,11 @@ module _ {w : ℕ} (W : IsWidth w) {n o len : ℕ} (room : Room w n o len) where
   room-start = let h : o / per w ≤ up w (o + len) = le-div-iff-mul-le (per-pos W) .1 (omega (arith, div-mul-le-self o (per w))) in omega arith
 
 -- normalising keeps the characters
-module _ {w : ℕ} (W : IsWidth w) (bs : List ℕ) (o len : ℕ) (room : Room w (length bs) o len) where
-  normal-char : (i : ℕ) → i < len → charAt w (normalPart w bs o len) (o % per w + i) ≡ charAt w bs (o + i)
+module _ {w : ℕ} (W : IsWidth w) (s : Span) (o len : ℕ) (room : Room w (length (s .bytes)) o len) where
+  abbrev bs : List ℕ
+  bs = s .bytes
+
+  normal-char : (i : ℕ) → i < len → charAt w (normalPart w s o len .bytes) (o % per w + i) ≡ charAt w bs (o + i)
   unfolding charAt
   normal-char i h =
       ap (λ (x : ℕ). x / 2 ^ (w * ((o % per w + i) % per w)) % 2 ^ w)
@@ -72,8 +76,8 @@ module _ {w : ℕ} (W : IsWidth w) (bs : List ℕ) (o len : ℕ) (room : Room w 
           let h : (o + i) / per w < up w (o + len) = div-lt-iff-lt-mul (per-pos W) .1 (omega (arith, up-hi W (o + len))) in
           omega (arith, byte)
 
-  pub normal-chars : chars w (normalPart w bs o len) (o % per w) len ≡ chars w bs o len
-  normal-chars = chars-ext w (normalPart w bs o len) bs (o % per w) o len normal-char
+  pub normal-chars : chars w (normalPart w s o len .bytes) (o % per w) len ≡ chars w (s .bytes) o len
+  normal-chars = chars-ext w (normalPart w s o len .bytes) bs (o % per w) o len normal-char
 
 -- an index that is accepted
 pub record Within (w n o len i : ℕ) : Type 0 where

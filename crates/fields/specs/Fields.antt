@@ -1,10 +1,10 @@
--- One view: bytes, an offset and a length, whose meaning is the list of their characters; when it is refused, its characters, its bytes and its words.
+-- One view: bytes, an offset and a length, whose meaning is the list of their characters; when it is refused, its characters and its words.
 -- Assumes nothing.
 use mathlib.Core.List.{List, [], _∷_, _++_, map, reverse}
-use Prim.Native.Nat.{ℕ, _+_, _-_, _/_}
-use lib.ListN.{length, getD, take, drop}
+use Prim.Native.Nat.{ℕ, _/_}
+use lib.ListN.{length, getD}
 use Rattle.codes.specs.Answers.{halves}
-use Rattle.codes.specs.Codes.{per, up, chars, complement}
+use Rattle.codes.specs.Codes.{chars, complement}
 use Rattle.codes.specs.Refusals.{Test, Answer, answer, first, tooLong, badView, badIndex, badEnd, badStart, badWord}
 use Rattle.codes.specs.Words.{word}
 
@@ -23,14 +23,6 @@ wordTests w n o len least bits = viewTests w n o len ++ badWord least (bits / w)
 -- the character at an index
 unfoldable pub got : ℕ → List ℕ → ℕ → ℕ → ℕ → Answer ℕ
 got w bs o len i = answer (first (viewTests w (length bs) o len ++ badIndex len i ∷ [])) (getD (chars w bs o len) i 0) 0
-
--- the part from byte a up to byte e
-abbrev pub part : ℕ → ℕ → List ℕ → List ℕ
-part a e bs = take (e - a) (drop a bs)
-
--- what normalising hands back: from byte offset / C8 to byte ceil((offset + length) / C8) + 48
-abbrev pub normalPart : ℕ → List ℕ → ℕ → ℕ → List ℕ
-normalPart w bs o len = part (o / per w) (up w (o + len) + 48) bs
 
 -- a view's word takes lengths up to 64 / w; in two halves, up to 128 / w
 unfoldable pub asU64 : ℕ → List ℕ → ℕ → ℕ → Answer ℕ

@@ -13,7 +13,7 @@ use ghost.Atoms.{Atoms, sem}
 use contract.Monad.{Fun, fact}
 use types.Kit.{Given, ‵, raw, _⊛_, ⋆, _$_, _∵_, !, qed, move, drop, use1, use2, split, join, learn, fsplit, fjoin, frame, done}
 use denote.RattleType.{Denots, owns}
-use denote.Ref.{RefT, now}
+use denote.Ref.{RefT}
 use denote.Enum.Laws as EL
 use denote.Struct.Laws as LL
 use denote.Struct.Rest.{own-open}
@@ -25,6 +25,7 @@ use denote.Triple.Clauses.{ensured, lasts}
 use Rattle.codes.specs.Refusals.{ifDone}
 use Rattle.codes.proofs.refusals.Outcome as O
 use Rattle.codes.proofs.refusals.Outcome.Laws as O′
+use Rattle.fields.specs.Spans.{spanOf, front}
 use Rattle.fields.specs.declared.inner.parts.Numbers.{Numbers}
 use Rattle.fields.proofs.inner.parts.Numbers as N
 use Rattle.fields.proofs.inner.parts.Numbers.Laws as N′
@@ -46,7 +47,7 @@ module _ {M : Type 1} (𝓤 : URA M) (H : Heap 𝓤) (A : Atoms 𝓤) (mem : Mem
     kept-to = (((κ, tt), (q, tt), tt, kept-args, passed), tt)
 
     abbrev pub Kept : RefT (List ℕ) → Type 0
-    Kept s = now s ≡ ifDone (r .outcome) (now x) []
+    Kept s = spanOf s ≡ ifDone (r .outcome) (spanOf x) (front (spanOf x))
 
     pub kept-said : (s : RefT (List ℕ)) → ent 𝓤 (ensured 𝓤 H A kept.ended (kept.clauses 𝓤 H A mem run) (κ, tt) kept-args tt s) (fact 𝓤 (Kept s))
     kept-said s = exE 𝓤 _ (λ ws. snd∗ 𝓤 (sem 𝓤 H A (lasts kept.ended (κ, tt) kept-args ws)) (fact 𝓤 (Kept s)))

@@ -39,7 +39,8 @@ use Rattle.codes.specs.Codes.{IsWidth, per}
 use Rattle.codes.specs.Refusals.{answer, first, ifDone}
 use Rattle.codes.proofs.units.Chars.Laws as C′
 use Rattle.fields.specs.Answers.{numbersSay}
-use Rattle.fields.specs.Fields.{viewTests, normalPart}
+use Rattle.fields.specs.Fields.{viewTests}
+use Rattle.fields.specs.Spans.{spanOf, front, normalPart}
 use Rattle.fields.specs.declared.inner.parts.Numbers.{Numbers}
 use Rattle.fields.proofs.inner.parts.Numbers as N
 use Rattle.fields.proofs.inner.parts.Numbers.Laws as N′
@@ -95,7 +96,7 @@ module _ {M : Type 1} (𝓤 : URA M) (H : Heap 𝓤) (A : Atoms 𝓤) (mem : Mem
 -- what is shown: the contract of `normalise` at the width k
 module _ {M : Type 1} (𝓤 : URA M) (k : ℕ) where
   abbrev pub clausesOf : Clauses 𝓤 normalise.ended
-  clausesOf = λ κs a. record { ghost = Unit {0}; requires = λ g. emp 𝓤; ensures = λ g r e. fact 𝓤 (partSays r ≡ normalised k (now (a .0 .bytes)) (a .0 .offset .0) (a .0 .len .0)) }
+  clausesOf = λ κs a. record { ghost = Unit {0}; requires = λ g. emp 𝓤; ensures = λ g r e. fact 𝓤 (partSays r ≡ normalised k (spanOf (a .0 .bytes)) (a .0 .offset .0) (a .0 .len .0)) }
 
 module _ {M : Type 1} (𝓤 : URA M) (H : Heap 𝓤) (A : Atoms 𝓤) (W : Given 𝓤 H A) (mem : Memory → SProp 𝓤) (run : Routine → Fun 𝓤) (k : ℕ) (small : Holds (ltb k (2 ^ 64))) (width : IsWidth k) (κ : Lft) (q : Share) (d : View) where
   abbrev a : Denots (Ps κ)
@@ -151,7 +152,7 @@ module _ {M : Type 1} (𝓤 : URA M) (H : Heap 𝓤) (A : Atoms 𝓤) (W : Given
   said₁ r = exE 𝓤 _ (λ ws. snd∗ 𝓤 (sem 𝓤 H A (lasts numbers.ended (κ, tt) b ws)) (fact 𝓤 (Said₁ r)))
 
   abbrev Said₂ : RefT (List ℕ) → Type 0
-  Said₂ s = now s ≡ ifDone (first (viewTests k (length (now (d .bytes))) (d .offset .0) (d .len .0))) (normalPart k (now (d .bytes)) (d .offset .0) (d .len .0)) []
+  Said₂ s = spanOf s ≡ ifDone (first (viewTests k (length (now (d .bytes))) (d .offset .0) (d .len .0))) (normalPart k (spanOf (d .bytes)) (d .offset .0) (d .len .0)) (front (spanOf (d .bytes)))
 
   said₂ : (s : RefT (List ℕ)) → ent 𝓤 (ensured 𝓤 H A bytes.ended (bytes.clauses 𝓤 H A mem run) (κ, tt) b tt s) (fact 𝓤 (Said₂ s))
   said₂ s = exE 𝓤 _ (λ ws. snd∗ 𝓤 (sem 𝓤 H A (lasts bytes.ended (κ, tt) b ws)) (fact 𝓤 (Said₂ s)))
@@ -159,7 +160,7 @@ module _ {M : Type 1} (𝓤 : URA M) (H : Heap 𝓤) (A : Atoms 𝓤) (W : Given
   exits : (r : Numbers) (s : RefT (List ℕ)) → Said₁ r → Said₂ s → ent 𝓤 (⋆ 𝓤 H A (‵ (Sl κ .own s (sv s ∷ [])) ∷ (‵ (flft κ q) ⊛ ‵ ftrue) ∷ ‵ Own ∷ ‵ (Nm .own r (nv r ∷ [])) ∷ [])) (Post (pv κ r s))
   exits r s e₁ e₂ =
       qed W (‵ (Sl κ .own s (sv s ∷ [])) ∷ (‵ (flft κ q) ⊛ ‵ ftrue) ∷ ‵ Own ∷ ‵ (Nm .own r (nv r ∷ [])) ∷ []) ∵
-      suffices ! _ (ends-at 𝓤 H A normalise.ended stayed (clausesOf 𝓤 k) W (((κ, tt), (q, tt), tt, a, at), tt) (pv κ r s) (part-of r s) (tt, tt) (tt, tt)) $ says ! (normalised-says k (now (d .bytes)) (d .offset .0) (d .len .0) r s e₁ e₂) $
+      suffices ! _ (ends-at 𝓤 H A normalise.ended stayed (clausesOf 𝓤 k) W (((κ, tt), (q, tt), tt, a, at), tt) (pv κ r s) (part-of r s) (tt, tt) (tt, tt)) $ says ! (normalised-says (spanOf (d .bytes)) r s k (d .offset .0) (d .len .0) e₁ e₂) $
       move ! (1 ∷ []) $ frame ! $ move ! (1 ∷ []) $ frame ! $ by ! (shut 𝓤 H A W κ r s)
 
   module _ (C : Calls 𝓤 H) (Λ : Loops 𝓤 H) (fm : FmC 𝓤 H (W .laws) C) (known₁ : Triple 𝓤 (C #normal-numbers) (NumbersC 𝓤 H A mem run)) (known₂ : Triple 𝓤 (C #normal-part) (BytesC 𝓤 H A mem run)) where

@@ -1,27 +1,28 @@
 -- What a part says that is handed back, by its numbers and its bytes.
 -- Assumes nothing.
-use mathlib.Core.List.{List, []}
+use mathlib.Core.List.{List}
 use mathlib.Core.Path.{_≡_, refl, sym, ap, _∙_}
 use Prim.Native.Nat.{ℕ, _+_, _-_, _%_}
 use lib.ListN.{length}
-use denote.Ref.{RefT, now}
+use denote.Ref.{RefT}
 use Rattle.codes.specs.Codes.{per}
 use Rattle.codes.specs.Refusals.{Answer, first, answer, ifDone, numberOf}
 use Rattle.codes.specs.declared.refusals.Outcome.{Outcome}
 use Rattle.codes.specs.declared.refusals.Outcome.the-variants.{Done, Refused}
 use Rattle.codes.proofs.RefusalLaws.{outcomeAt, outcomeAt-number}
 use Rattle.fields.specs.Answers.{numbersSay}
-use Rattle.fields.specs.Fields.{viewTests, sliceTests, normalPart}
+use Rattle.fields.specs.Fields.{viewTests, sliceTests}
+use Rattle.fields.specs.Spans.{Span, spanOf, front, normalPart}
 use Rattle.fields.specs.declared.inner.parts.Numbers.{Numbers}
 use Rattle.views.specs.Answers.{partSays}
-use Rattle.views.specs.Views.{Lent, lent, made, sliced, normalised}
+use Rattle.views.specs.Views.{Lent, lent, empty, made, sliced, normalised}
 use Rattle.views.specs.declared.view.Part.{Part}
 use Rattle.views.specs.declared.view.View.{View}
 
-lent-if : (p : Outcome) (bs : List ℕ) (o len : ℕ)
-    → lent (ifDone p bs []) (ifDone {A = ℕ × ℕ} p (o, len) (0, 0) .0) (ifDone {A = ℕ × ℕ} p (o, len) (0, 0) .1) ≡ ifDone p (lent bs o len) (lent [] 0 0)
-lent-if Done bs o len = refl
-lent-if (Refused r) bs o len = refl
+lent-if : (q : Outcome) (s t : Span) (o len : ℕ)
+    → lent (ifDone q t (front s)) (ifDone {A = ℕ × ℕ} q (o, len) (0, 0) .0) (ifDone {A = ℕ × ℕ} q (o, len) (0, 0) .1) ≡ ifDone q (lent t o len) (empty s)
+lent-if Done s t o len = refl
+lent-if (Refused r) s t o len = refl
 
 -- the view and the part of numbers and a slice
 abbrev pub view-of : Numbers → RefT (List ℕ) → View
@@ -30,32 +31,34 @@ view-of n s = record { bytes = s; offset = n .offset; len = n .len }
 abbrev pub part-of : Numbers → RefT (List ℕ) → Part
 part-of n s = record { view = view-of n s; outcome = n .outcome }
 
--- what a part says by its numbers and its bytes
-part-says : (n : Numbers) (s : RefT (List ℕ)) (q : Outcome) (bs : List ℕ) (o len : ℕ) → numbersSay n ≡ answer q (o, len) (0, 0)
-    → now s ≡ ifDone q bs [] → partSays (part-of n s) ≡ answer q (lent bs o len) (lent [] 0 0)
-part-says n s q bs o len e eb =
-    (λ i. record { no = e i .no; values = lent (eb i) (e i .values .0) (e i .values .1) })
-    ∙ ap (λ (v : Lent). record { no = numberOf q; values = v }) (lent-if q bs o len)
-
 numbers-outcome : (n : Numbers) (q : Outcome) (v : ℕ × ℕ) → numbersSay n ≡ answer q v (0, 0) → n .outcome ≡ q
 numbers-outcome n q v e = sym (outcomeAt-number (n .outcome)) ∙ ap (λ (x : Answer (ℕ × ℕ)). outcomeAt (x .no)) e ∙ outcomeAt-number q
 
--- the bytes themselves, kept where the numbers are not refused
-kept-says : (n : Numbers) (s : RefT (List ℕ)) (q : Outcome) (bs : List ℕ) (o len : ℕ) → numbersSay n ≡ answer q (o, len) (0, 0)
-    → now s ≡ ifDone (n .outcome) bs [] → partSays (part-of n s) ≡ answer q (lent bs o len) (lent [] 0 0)
-kept-says n s q bs o len e eb = part-says n s q bs o len e (eb ∙ ap (λ (p : Outcome). ifDone p bs []) (numbers-outcome n q (o, len) e))
+-- a part of the span s, by its numbers n and the slice r that holds its bytes
+module _ (s : Span) (n : Numbers) (r : RefT (List ℕ)) where
+  -- what it says by the outcome q
+  part-says : (q : Outcome) (t : Span) (o len : ℕ) → numbersSay n ≡ answer q (o, len) (0, 0) → spanOf r ≡ ifDone q t (front s) → partSays (part-of n r) ≡ answer q (lent t o len) (empty s)
+  part-says q t o len e eb =
+      (λ i. record { no = e i .no; values = lent (eb i) (e i .values .0) (e i .values .1) })
+      ∙ ap (λ (v : Lent). record { no = numberOf q; values = v }) (lent-if q s t o len)
 
-module _ (w : ℕ) (bs : List ℕ) (o len : ℕ) (n : Numbers) (s : RefT (List ℕ)) where
-  pub made-says : numbersSay n ≡ answer (first (viewTests w (length bs) o len)) (o, len) (0, 0) → now s ≡ ifDone (n .outcome) bs [] → partSays (part-of n s) ≡ made w bs o len
-  unfolding made
-  made-says e eb = kept-says n s (first (viewTests w (length bs) o len)) bs o len e eb
+  -- the bytes themselves, kept where the numbers are not refused
+  kept-says : (q : Outcome) (o len : ℕ) → numbersSay n ≡ answer q (o, len) (0, 0) → spanOf r ≡ ifDone (n .outcome) s (front s) → partSays (part-of n r) ≡ answer q (lent s o len) (empty s)
+  kept-says q o len e eb = part-says q s o len e (eb ∙ ap (λ (p : Outcome). ifDone p s (front s)) (numbers-outcome n q (o, len) e))
 
-  pub sliced-says : (start end : ℕ) → numbersSay n ≡ answer (first (sliceTests w (length bs) o len start end)) (o + start, end - start) (0, 0) → now s ≡ ifDone (n .outcome) bs []
-      → partSays (part-of n s) ≡ sliced w bs o len start end
-  unfolding sliced
-  sliced-says start end e eb = kept-says n s (first (sliceTests w (length bs) o len start end)) bs (o + start) (end - start) e eb
+  module _ (w o len : ℕ) where
+    abbrev tests : Outcome
+    tests = first (viewTests w (length (s .bytes)) o len)
 
-  pub normalised-says : numbersSay n ≡ answer (first (viewTests w (length bs) o len)) (o % per w, len) (0, 0) → now s ≡ ifDone (first (viewTests w (length bs) o len)) (normalPart w bs o len) []
-      → partSays (part-of n s) ≡ normalised w bs o len
-  unfolding normalised
-  normalised-says e eb = part-says n s (first (viewTests w (length bs) o len)) (normalPart w bs o len) (o % per w) len e eb
+    pub made-says : numbersSay n ≡ answer tests (o, len) (0, 0) → spanOf r ≡ ifDone (n .outcome) s (front s) → partSays (part-of n r) ≡ made w s o len
+    unfolding made
+    made-says e eb = kept-says tests o len e eb
+
+    pub sliced-says : (start end : ℕ) → numbersSay n ≡ answer (first (sliceTests w (length (s .bytes)) o len start end)) (o + start, end - start) (0, 0)
+        → spanOf r ≡ ifDone (n .outcome) s (front s) → partSays (part-of n r) ≡ sliced w s o len start end
+    unfolding sliced
+    sliced-says start end e eb = kept-says (first (sliceTests w (length (s .bytes)) o len start end)) (o + start) (end - start) e eb
+
+    pub normalised-says : numbersSay n ≡ answer tests (o % per w, len) (0, 0) → spanOf r ≡ ifDone tests (normalPart w s o len) (front s) → partSays (part-of n r) ≡ normalised w s o len
+    unfolding normalised
+    normalised-says e eb = part-says tests (normalPart w s o len) (o % per w) len e eb

@@ -51,6 +51,7 @@ use Rattle.codes.proofs.letters.Symbol.Laws as S′
 use Rattle.codes.proofs.units.Chars as Cs
 use Rattle.codes.proofs.units.Chars.Laws as C′
 use Rattle.fields.specs.Fields.{sliceTests}
+use Rattle.fields.specs.Spans.{spanOf}
 use Rattle.fields.proofs.inner.parts.slice_outcome as outcome
 use Rattle.fields.proofs.inner.parts.slice_outcome.Symbol.{name as #slice-outcome}
 use Rattle.fields.proofs.inner.parts.unless_refused as unless
@@ -202,7 +203,7 @@ module _ {M : Type 1} (𝓤 : URA M) (H : Heap 𝓤) (A : Atoms 𝓤) (W : Given
       move ! (3 ∷ 0 ∷ []) $ use2 W (raw (ViewC 𝓤 H A k .pre to₁)) (qed W ((‵ Tok ⊛ ‵ ftrue) ∷ ‵ (owns (Sl κ ∷ Ch ∷ Ch ∷ []) b₁ passed₁) ∷ []) ∵ join ! $ frame ! $ done !) $ frame ! $ join ! $ done !
 
   abbrev Said₁ : Part → Type 0
-  Said₁ r = partSays r ≡ made k (now x) (offset .0) (len .0)
+  Said₁ r = partSays r ≡ made k (spanOf x) (offset .0) (len .0)
 
   said₁ : (r : Part) → ent 𝓤 (ensured 𝓤 H A view.ended (MakeWalk.clausesOf 𝓤 k) (κ, tt) b₁ tt r) (fact 𝓤 (Said₁ r))
   said₁ r = exE 𝓤 _ (λ ws. snd∗ 𝓤 (sem 𝓤 H A (lasts view.ended (κ, tt) b₁ ws)) (fact 𝓤 (Said₁ r)))
@@ -302,10 +303,10 @@ module _ {M : Type 1} (𝓤 : URA M) (H : Heap 𝓤) (A : Atoms 𝓤) (W : Given
   exits r₀ r₁ r₂ r₃ c g u v z e₀ e₁ e₂ e₃ e₄ e₅ =
       qed W (‵ (S.the-row .own g (z ∷ [])) ∷ (‵ Tok ⊛ ‵ ftrue) ∷ ‵ Own ∷ []) ∵
       suffices ! _ (ends-at 𝓤 H A gs.ended stayed (clausesOf 𝓤 k) W (((κ, tt), (q, tt), tt, a, at), tt) z g (tt, (tt, (tt, (tt, (tt, (tt, tt)))))) (tt, (tt, (tt, (tt, (tt, (tt, tt))))))) $
-      says ! (e₅ ∙ (λ j. ifDone (e₀ j) (read j) (answer (e₀ j) 0 0)) ∙ gotSliced-is width (now x) (offset .0) (len .0) (start .0) (end .0) (i .0)) $
+      says ! (e₅ ∙ (λ j. ifDone (e₀ j) (read j) (answer (e₀ j) 0 0)) ∙ gotSliced-is width (spanOf x) (offset .0) (len .0) (start .0) (end .0) (i .0)) $
       move ! (1 ∷ []) $ frame ! $ move ! (1 ∷ 0 ∷ []) $ frame ! $ done !
     where
-      read : symbolSays c ≡ gotOf k (normalisedOf k (slicedOf k (made k (now x) (offset .0) (len .0) .values) (start .0) (end .0) .values) .values) (i .0)
+      read : symbolSays c ≡ gotOf k (normalisedOf k (slicedOf k (made k (spanOf x) (offset .0) (len .0) .values) (start .0) (end .0) .values) .values) (i .0)
       read = e₄ ∙ ap (λ (z : Answer Lent). gotOf k (z .values) (i .0)) (e₃ ∙ ap (λ (y : Answer Lent). normalisedOf k (y .values)) (e₂ ∙ ap (λ (p : Answer Lent). slicedOf k (p .values) (start .0) (end .0)) e₁))
 
   ch : (z : Chars) → Is Ch z (C′.lowered z ∷ []) → Holds (hasTy C′.mir (C′.lowered z)) × WT (C′.lowered z)

@@ -17,14 +17,15 @@ use Rattle.codes.specs.declared.refusals.Refusal.the-variants.{TooLong, BadView
 use Rattle.codes.proofs.CharLaws.{length-chars, chars-append}
 use Rattle.codes.proofs.WidthLaws.{up-hi, below-or}
 use Rattle.codes.proofs.OutcomeLaws.{first-next, first-holds, first-done, first-refused, first-both}
-use Rattle.fields.specs.Fields.{viewTests, sliceTests, normalPart, got}
+use Rattle.fields.specs.Fields.{viewTests, sliceTests, got}
+use Rattle.fields.specs.Spans.{Span, normalPart}
 use Rattle.fields.proofs.ViewLaws.{Room, view-accepted, slice-cut, room-start, room-end, normal-chars}
-use Rattle.views.specs.Views.{Lent, lent, made, sliced, normalised, gotSliced}
+use Rattle.views.specs.Views.{Lent, lent, empty, made, sliced, normalised, gotSliced}
 
 -- a part is an accepted view with these characters
 pub record Holds (w : ℕ) (cs : List ℕ) (p : Lent) : Type 0 where
-  pub accepted : first (viewTests w (length (p .bytes)) (p .offset) (p .len)) ≡ Done
-  pub characters : chars w (p .bytes) (p .offset) (p .len) ≡ cs
+  pub accepted : first (viewTests w (length (p .span .bytes)) (p .offset) (p .len)) ≡ Done
+  pub characters : chars w (p .span .bytes) (p .offset) (p .len) ≡ cs
 
 room-done : (w n o len : ℕ) → Room w n o len → first (viewTests w n o len) ≡ Done
 room-done w n o len r =
@@ -42,90 +43,90 @@ chars-between w bs o len start end l m =
     whole : start + (end - start + (len - end)) ≡ len
     whole = omega arith
 
-held : {w : ℕ} {cs : List ℕ} {q : Outcome} (p : Lent) → q ≡ Done → Holds w cs p → (answer q p (lent [] 0 0) .no ≡ 0) × Holds w cs (answer q p (lent [] 0 0) .values)
-held {w} {cs} {q} p d h = subst (λ (x : Outcome). (answer x p (lent [] 0 0) .no ≡ 0) × Holds w cs (answer x p (lent [] 0 0) .values)) (sym d) (refl, h)
+held : {w : ℕ} {cs : List ℕ} {q : Outcome} (p z : Lent) → q ≡ Done → Holds w cs p → (answer q p z .no ≡ 0) × Holds w cs (answer q p z .values)
+held {w} {cs} {q} p z d h = subst (λ (x : Outcome). (answer x p z .no ≡ 0) × Holds w cs (answer x p z .values)) (sym d) (refl, h)
 
-module _ {w : ℕ} (bs : List ℕ) (o len : ℕ) (e : first (viewTests w (length bs) o len) ≡ Done) where
+module _ {w : ℕ} (s : Span) (o len : ℕ) (e : first (viewTests w (length (s .bytes)) o len) ≡ Done) where
   pub sliced-holds : (start end : ℕ) → start ≤ end → end ≤ len
-      → (sliced w bs o len start end .no ≡ 0) × Holds w (take (end - start) (drop start (chars w bs o len))) (sliced w bs o len start end .values)
+      → (sliced w s o len start end .no ≡ 0) × Holds w (take (end - start) (drop start (chars w (s .bytes) o len))) (sliced w s o len start end .values)
   unfolding sliced
   sliced-holds start end l m =
-      let r = view-accepted w (length bs) o len e in
-      let d : first (sliceTests w (length bs) o len start end) ≡ Done = first-done (viewTests w (length bs) o len) (badEnd len end ∷ badStart start end ∷ []) e
+      let r = view-accepted w (length (s .bytes)) o len e in
+      let d : first (sliceTests w (length (s .bytes)) o len start end) ≡ Done = first-done (viewTests w (length (s .bytes)) o len) (badEnd len end ∷ badStart start end ∷ []) e
       ∙ first-next (ltb len end) BadRange (badStart start end ∷ []) (le-ltb len end m) ∙ first-next (ltb end start) BadRange [] (le-ltb end start l) in
-      held (lent bs (o + start) (end - start)) d
-      (record { accepted = room-done w (length bs) (o + start) (end - start) (record { small = r .small; fits = omega (arith, r .fits) }); characters = chars-between w bs o len start end l m })
+      held (lent s (o + start) (end - start)) (empty s) d
+      (record { accepted = room-done w (length (s .bytes)) (o + start) (end - start) (record { small = r .small; fits = omega (arith, r .fits) }); characters = chars-between w (s .bytes) o len start end l m })
 
-  pub normalised-holds : IsWidth w → (normalised w bs o len .no ≡ 0) × Holds w (chars w bs o len) (normalised w bs o len .values)
+  pub normalised-holds : IsWidth w → (normalised w s o len .no ≡ 0) × Holds w (chars w (s .bytes) o len) (normalised w s o len .values)
   unfolding normalised
   normalised-holds W =
-      let r = view-accepted w (length bs) o len e in
+      let r = view-accepted w (length (s .bytes)) o len e in
       let from : ℕ = o / per w in
       let to : ℕ = up w (o + len) + 48 in
-      let long : length (normalPart w bs o len) ≡ to - from = length-take-le (to - from) (drop from bs) (rw length-drop (omega (arith, room-end W r))) in
+      let long : length (normalPart w s o len .bytes) ≡ to - from = length-take-le (to - from) (drop from (s .bytes)) (rw length-drop (omega (arith, room-end W r))) in
       let a = add-mul from (to - from) (per w) in
       let b : from + (to - from) ≡ to = add-sub-of-le (room-start W r) in
       let c : (from + (to - from)) * per w ≡ to * per w = ap (λ (x : ℕ). x * per w) b in
-      held (lent (normalPart w bs o len) (o % per w) len) e
+      held (lent (normalPart w s o len) (o % per w) len) (empty s) e
       (record {
-        accepted = room-done w (length (normalPart w bs o len)) (o % per w) len (record {
+        accepted = room-done w (length (normalPart w s o len .bytes)) (o % per w) len (record {
           small = omega (arith, r .small, room-end W r);
           fits = rw long (omega (arith, add-mul (up w (o + len)) 48 (per w), up-hi W (o + len), div-add-mod' o (per w)));
         });
-        characters = normal-chars W bs o len r;
+        characters = normal-chars W s o len r;
       })
 
-  pub made-holds : Holds w (chars w bs o len) (made w bs o len .values)
+  pub made-holds : Holds w (chars w (s .bytes) o len) (made w s o len .values)
   unfolding made
-  made-holds = held (lent bs o len) e (record { accepted = e; characters = refl }) .1
+  made-holds = held (lent s o len) (empty s) e (record { accepted = e; characters = refl }) .1
 
 -- the calls on a part that was handed back
 abbrev pub gotOf : ℕ → Lent → ℕ → Answer ℕ
-gotOf w p i = got w (p .bytes) (p .offset) (p .len) i
+gotOf w p i = got w (p .span .bytes) (p .offset) (p .len) i
 
 abbrev pub slicedOf : ℕ → Lent → ℕ → ℕ → Answer Lent
-slicedOf w p start end = sliced w (p .bytes) (p .offset) (p .len) start end
+slicedOf w p start end = sliced w (p .span) (p .offset) (p .len) start end
 
 abbrev pub normalisedOf : ℕ → Lent → Answer Lent
-normalisedOf w p = normalised w (p .bytes) (p .offset) (p .len)
+normalisedOf w p = normalised w (p .span) (p .offset) (p .len)
 
 -- on one that holds the characters cs
 module _ {w : ℕ} {cs : List ℕ} (p : Lent) (h : Holds w cs p) where
   length-held : p .len ≡ length cs
-  length-held = sym (length-chars w (p .bytes) (p .offset) (p .len)) ∙ ap length (h .characters)
+  length-held = sym (length-chars w (p .span .bytes) (p .offset) (p .len)) ∙ ap length (h .characters)
 
   pub slicedOf-holds : (start end : ℕ) → start ≤ end → end ≤ length cs → Holds w (take (end - start) (drop start cs)) (slicedOf w p start end .values)
   slicedOf-holds start end l m =
       subst (λ (xs : List ℕ). Holds w (take (end - start) (drop start xs)) (slicedOf w p start end .values)) (h .characters)
-      (sliced-holds (p .bytes) (p .offset) (p .len) (h .accepted) start end l (omega (arith, length-held)) .1)
+      (sliced-holds (p .span) (p .offset) (p .len) (h .accepted) start end l (omega (arith, length-held)) .1)
 
   pub normalisedOf-holds : IsWidth w → Holds w cs (normalisedOf w p .values)
-  normalisedOf-holds W = subst (λ (xs : List ℕ). Holds w xs (normalisedOf w p .values)) (h .characters) (normalised-holds (p .bytes) (p .offset) (p .len) (h .accepted) W .1)
+  normalisedOf-holds W = subst (λ (xs : List ℕ). Holds w xs (normalisedOf w p .values)) (h .characters) (normalised-holds (p .span) (p .offset) (p .len) (h .accepted) W .1)
 
   pub gotOf-is : (i : ℕ) → gotOf w p i ≡ answer (first (badIndex (length cs) i ∷ [])) (getD cs i 0) 0
   unfolding got
   gotOf-is i =
-      let ts : List Test = viewTests w (length (p .bytes)) (p .offset) (p .len) in
+      let ts : List Test = viewTests w (length (p .span .bytes)) (p .offset) (p .len) in
       let d = first-done ts (badIndex (p .len) i ∷ []) (h .accepted) ∙ ap (λ (n : ℕ). first (badIndex n i ∷ [])) length-held in
       λ j. answer (d j) (getD (h .characters j) i 0) 0
 
 -- a character of a view that is made, sliced and normalised is one of the slice; a refusal of the view or of the slice goes first
-module _ {w : ℕ} (W : IsWidth w) (bs : List ℕ) (o len start end i : ℕ) where
+module _ {w : ℕ} (W : IsWidth w) (s : Span) (o len start end i : ℕ) where
   abbrev tests : List Test
-  tests = sliceTests w (length bs) o len start end
+  tests = sliceTests w (length (s .bytes)) o len start end
 
   abbrev read : Answer ℕ
-  read = gotOf w (normalisedOf w (slicedOf w (made w bs o len .values) start end .values) .values) i
+  read = gotOf w (normalisedOf w (slicedOf w (made w s o len .values) start end .values) .values) i
 
-  within : first tests ≡ Done → read ≡ answer (first (badIndex (end - start) i ∷ [])) (getD (chars w bs o len) (start + i) 0) 0
+  within : first tests ≡ Done → read ≡ answer (first (badIndex (end - start) i ∷ [])) (getD (chars w (s .bytes) o len) (start + i) 0) 0
   within d =
-      let cut = slice-cut w (length bs) o len start end d in
-      let cs : List ℕ = chars w bs o len in
+      let cut = slice-cut w (length (s .bytes)) o len start end d in
+      let cs : List ℕ = chars w (s .bytes) o len in
       let n : ℕ = end - start in
-      let e = first-both (viewTests w (length bs) o len) (badEnd len end ∷ badStart start end ∷ []) d .0 in
-      let h = slicedOf-holds (made w bs o len .values) (made-holds bs o len e) start end (cut .starts) (rw length-chars (cut .ends)) in
+      let e = first-both (viewTests w (length (s .bytes)) o len) (badEnd len end ∷ badStart start end ∷ []) d .0 in
+      let h = slicedOf-holds (made w s o len .values) (made-holds s o len e) start end (cut .starts) (rw length-chars (cut .ends)) in
       let long : length (take n (drop start cs)) ≡ n = length-take-le n (drop start cs) (rw (length-drop, length-chars) (omega (arith, cut .ends))) in
-      let p : Lent = slicedOf w (made w bs o len .values) start end .values in
+      let p : Lent = slicedOf w (made w s o len .values) start end .values in
       gotOf-is (normalisedOf w p .values) (normalisedOf-holds p h W) i
       ∙ ap (λ (k : ℕ). answer (first (badIndex k i ∷ [])) (getD (take n (drop start cs)) i 0) 0) long
       ∙ below-or i n
@@ -134,10 +135,10 @@ module _ {w : ℕ} (W : IsWidth w) (bs : List ℕ) (o len start end i : ℕ) whe
       let f = first-holds (leb n i) BadRange [] (le-leb n i l) in
       ap (λ (q : Outcome). answer q (getD (take n (drop start cs)) i 0) 0) f ∙ sym (ap (λ (q : Outcome). answer q (getD cs (start + i) 0) 0) f))
 
-  pub gotSliced-is : ifDone (first tests) read (answer (first tests) 0 0) ≡ gotSliced w bs o len start end i
+  pub gotSliced-is : ifDone (first tests) read (answer (first tests) 0 0) ≡ gotSliced w (s .bytes) o len start end i
   unfolding gotSliced
   gotSliced-is = cases (first tests) refl
     where
-      cases : (q : Outcome) → first tests ≡ q → ifDone q read (answer q 0 0) ≡ gotSliced w bs o len start end i
-      cases Done d = within d ∙ sym (ap (λ (q : Outcome). answer q (getD (chars w bs o len) (start + i) 0) 0) (first-done tests (badIndex (end - start) i ∷ []) d))
-      cases (Refused r) d = sym (ap (λ (q : Outcome). answer q (getD (chars w bs o len) (start + i) 0) 0) (first-refused tests (badIndex (end - start) i ∷ []) r d))
+      cases : (q : Outcome) → first tests ≡ q → ifDone q read (answer q 0 0) ≡ gotSliced w (s .bytes) o len start end i
+      cases Done d = within d ∙ sym (ap (λ (q : Outcome). answer q (getD (chars w (s .bytes) o len) (start + i) 0) 0) (first-done tests (badIndex (end - start) i ∷ []) d))
+      cases (Refused r) d = sym (ap (λ (q : Outcome). answer q (getD (chars w (s .bytes) o len) (start + i) 0) 0) (first-refused tests (badIndex (end - start) i ∷ []) r d))

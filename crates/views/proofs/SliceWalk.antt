@@ -42,6 +42,7 @@ use Rattle.codes.proofs.units.Chars as Cs
 use Rattle.codes.proofs.units.Chars.Laws as C′
 use Rattle.fields.specs.Answers.{numbersSay}
 use Rattle.fields.specs.Fields.{sliceTests}
+use Rattle.fields.specs.Spans.{spanOf}
 use Rattle.fields.specs.declared.inner.parts.Numbers.{Numbers}
 use Rattle.fields.proofs.inner.parts.Numbers as N
 use Rattle.fields.proofs.inner.parts.Numbers.Laws as N′
@@ -95,7 +96,7 @@ module _ {M : Type 1} (𝓤 : URA M) (H : Heap 𝓤) (A : Atoms 𝓤) (mem : Mem
 -- what is shown: the contract of `slice` at the width k
 module _ {M : Type 1} (𝓤 : URA M) (k : ℕ) where
   abbrev pub clausesOf : Clauses 𝓤 slice.ended
-  clausesOf = λ κs a. record { ghost = Unit {0}; requires = λ g. emp 𝓤; ensures = λ g r e. fact 𝓤 (partSays r ≡ sliced k (now (a .0 .bytes)) (a .0 .offset .0) (a .0 .len .0) (a .1 .0 .0) (a .1 .1 .0 .0)) }
+  clausesOf = λ κs a. record { ghost = Unit {0}; requires = λ g. emp 𝓤; ensures = λ g r e. fact 𝓤 (partSays r ≡ sliced k (spanOf (a .0 .bytes)) (a .0 .offset .0) (a .0 .len .0) (a .1 .0 .0) (a .1 .1 .0 .0)) }
 
 module _ {M : Type 1} (𝓤 : URA M) (H : Heap 𝓤) (A : Atoms 𝓤) (W : Given 𝓤 H A) (mem : Memory → SProp 𝓤) (run : Routine → Fun 𝓤) (k : ℕ) (small : Holds (ltb k (2 ^ 64))) (width : IsWidth k) (κ : Lft) (q : Share) (d : View) (start end : Chars) where
   abbrev a : Denots (Ps κ)
@@ -148,7 +149,7 @@ module _ {M : Type 1} (𝓤 : URA M) (H : Heap 𝓤) (A : Atoms 𝓤) (W : Given
   exits : (r : Numbers) (s : RefT (List ℕ)) → Said₁ r → Kept 𝓤 H A mem run κ q (d .bytes) r s → ent 𝓤 (⋆ 𝓤 H A (‵ (Sl κ .own s (sv s ∷ [])) ∷ (‵ (flft κ q) ⊛ ‵ ftrue) ∷ ‵ (Nm .own r (nv r ∷ [])) ∷ ‵ Own ∷ [])) (Post (pv κ r s))
   exits r s e₁ e₂ =
       qed W (‵ (Sl κ .own s (sv s ∷ [])) ∷ (‵ (flft κ q) ⊛ ‵ ftrue) ∷ ‵ (Nm .own r (nv r ∷ [])) ∷ ‵ Own ∷ []) ∵
-      suffices ! _ (ends-at 𝓤 H A slice.ended stayed (clausesOf 𝓤 k) W (((κ, tt), (q, tt), tt, a, at), tt) (pv κ r s) (part-of r s) (tt, (tt, (tt, tt))) (tt, (tt, (tt, tt)))) $ says ! (sliced-says k (now (d .bytes)) (d .offset .0) (d .len .0) r s (start .0) (end .0) e₁ e₂) $
+      suffices ! _ (ends-at 𝓤 H A slice.ended stayed (clausesOf 𝓤 k) W (((κ, tt), (q, tt), tt, a, at), tt) (pv κ r s) (part-of r s) (tt, (tt, (tt, tt))) (tt, (tt, (tt, tt)))) $ says ! (sliced-says (spanOf (d .bytes)) r s k (d .offset .0) (d .len .0) (start .0) (end .0) e₁ e₂) $
       move ! (1 ∷ []) $ frame ! $ move ! (2 ∷ []) $ frame ! $ by ! (shut 𝓤 H A W κ r s)
 
   module _ (C : Calls 𝓤 H) (Λ : Loops 𝓤 H) (fm : FmC 𝓤 H (W .laws) C) (known₁ : Triple 𝓤 (C #slice-numbers) (NumbersC 𝓤 H A mem run)) (known₂ : Triple 𝓤 (C #kept) (KeptC 𝓤 H A mem run)) where

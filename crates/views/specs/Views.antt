@@ -5,29 +5,33 @@ use Prim.Native.Nat.{ℕ, _+_, _-_, _%_}
 use lib.ListN.{length, getD}
 use Rattle.codes.specs.Codes.{per, chars}
 use Rattle.codes.specs.Refusals.{Answer, answer, first, badIndex}
-use Rattle.fields.specs.Fields.{viewTests, sliceTests, normalPart}
+use Rattle.fields.specs.Fields.{viewTests, sliceTests}
+use Rattle.fields.specs.Spans.{Span, front, normalPart}
 
--- a part that is handed back: its bytes, its offset and its length
+-- a part that is handed back: its bytes with their place, its offset and its length
 pub record Lent : Type 0 where
-  pub bytes : List ℕ
+  pub span : Span
   pub offset : ℕ
   pub len : ℕ
 
-abbrev pub lent : List ℕ → ℕ → ℕ → Lent
-lent bs o len = record { bytes = bs; offset = o; len = len }
+abbrev pub lent : Span → ℕ → ℕ → Lent
+lent s o len = record { span = s; offset = o; len = len }
 
--- a view is made; an empty part where it is refused, as in the two below
-unfoldable pub made : ℕ → List ℕ → ℕ → ℕ → Answer Lent
-made w bs o len = answer (first (viewTests w (length bs) o len)) (lent bs o len) (lent [] 0 0)
+-- what a refusal hands back
+abbrev pub empty : Span → Lent
+empty s = lent (front s) 0 0
+
+-- a view is made
+unfoldable pub made : ℕ → Span → ℕ → ℕ → Answer Lent
+made w s o len = answer (first (viewTests w (length (s .bytes)) o len)) (lent s o len) (empty s)
 
 -- slicing keeps the buffer
-unfoldable pub sliced : ℕ → List ℕ → ℕ → ℕ → ℕ → ℕ → Answer Lent
-sliced w bs o len start end =
-    answer (first (sliceTests w (length bs) o len start end)) (lent bs (o + start) (end - start)) (lent [] 0 0)
+unfoldable pub sliced : ℕ → Span → ℕ → ℕ → ℕ → ℕ → Answer Lent
+sliced w s o len start end = answer (first (sliceTests w (length (s .bytes)) o len start end)) (lent s (o + start) (end - start)) (empty s)
 
 -- normalising hands back the part, with offset mod C8
-unfoldable pub normalised : ℕ → List ℕ → ℕ → ℕ → Answer Lent
-normalised w bs o len = answer (first (viewTests w (length bs) o len)) (lent (normalPart w bs o len) (o % per w) len) (lent [] 0 0)
+unfoldable pub normalised : ℕ → Span → ℕ → ℕ → Answer Lent
+normalised w s o len = answer (first (viewTests w (length (s .bytes)) o len)) (lent (normalPart w s o len) (o % per w) len) (empty s)
 
 -- the character at an index of a slice
 unfoldable pub gotSliced : ℕ → List ℕ → ℕ → ℕ → ℕ → ℕ → ℕ → Answer ℕ

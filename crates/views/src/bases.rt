@@ -17,12 +17,13 @@ use fields::inner::words;
 ghost use mathlib.Core.Path.{_≡_};
 ghost use Rattle.codes.specs.Answers.{symbolSays, wordSays, word128Says};
 ghost use Rattle.fields.specs.Fields.{got, asU64, asU128, flippedAsU64, flippedAsU128};
+ghost use Rattle.fields.specs.Spans.{spanOf};
 ghost use Rattle.views.specs.Answers.{partSays};
 ghost use Rattle.views.specs.Views.{made, sliced, normalised, gotSliced};
 
 // A view, checked.
 pub fn view<'a>(bytes: &'a [u8], offset: Chars, len: Chars) -> Part<'a>
-    ensures { λ r. ⌜ partSays r ≡ made 2 (now (bytes .entry)) (offset .0) (len .0) ⌝ }
+    ensures { λ r. ⌜ partSays r ≡ made 2 (spanOf (bytes .entry)) (offset .0) (len .0) ⌝ }
 {
     let numbers = made_numbers(2, bytes, offset, len);
     let held = kept(bytes, numbers.outcome);
@@ -45,7 +46,7 @@ pub fn get<'a>(v: View<'a>, i: Chars) -> Symbol
 
 // The characters from `start` up to `end`, in the same bytes.
 pub fn slice<'a>(v: View<'a>, start: Chars, end: Chars) -> Part<'a>
-    ensures { λ r. ⌜ partSays r ≡ sliced 2 (now (v .entry .bytes)) (v .entry .offset .0) (v .entry .len .0) (start .0) (end .0) ⌝ }
+    ensures { λ r. ⌜ partSays r ≡ sliced 2 (spanOf (v .entry .bytes)) (v .entry .offset .0) (v .entry .len .0) (start .0) (end .0) ⌝ }
 {
     let numbers = slice_numbers(2, v.bytes, v.offset, v.len, start, end);
     let held = kept(v.bytes, numbers.outcome);
@@ -61,7 +62,7 @@ pub fn slice<'a>(v: View<'a>, start: Chars, end: Chars) -> Part<'a>
 
 // The same characters in the fewest bytes.
 pub fn normalise<'a>(v: View<'a>) -> Part<'a>
-    ensures { λ r. ⌜ partSays r ≡ normalised 2 (now (v .entry .bytes)) (v .entry .offset .0) (v .entry .len .0) ⌝ }
+    ensures { λ r. ⌜ partSays r ≡ normalised 2 (spanOf (v .entry .bytes)) (v .entry .offset .0) (v .entry .len .0) ⌝ }
 {
     let numbers = normal_numbers(2, v.bytes, v.offset, v.len);
     let held = normal_part(2, v.bytes, v.offset, v.len);

@@ -10,7 +10,6 @@ use codes::letters::Symbol;
 use codes::refusals::Outcome;
 use codes::refusals::Refusal;
 use codes::units::Chars;
-ghost use mathlib.Core.List.{[]};
 ghost use mathlib.Core.Path.{_≡_};
 ghost use Prim.Native.Nat.{_+_, _-_, _%_};
 ghost use lib.ListN.{length};
@@ -19,7 +18,8 @@ ghost use Rattle.codes.specs.Codes.{IsWidth, per};
 ghost use Rattle.codes.specs.Refusals.{answer, first, ifDone};
 ghost use Rattle.codes.specs.declared.refusals.Outcome.the-variants.{Done};
 ghost use Rattle.fields.specs.Answers.{numbersSay};
-ghost use Rattle.fields.specs.Fields.{viewTests, sliceTests, got, normalPart};
+ghost use Rattle.fields.specs.Fields.{viewTests, sliceTests, got};
+ghost use Rattle.fields.specs.Spans.{spanOf, front, normalPart};
 
 // The offset and the length of a part, zeros where it is refused.
 pub struct Numbers {
@@ -148,9 +148,9 @@ pub fn normal_numbers(w: usize, bytes: &[u8], offset: Chars, len: Chars) -> Numb
     )
 }
 
-// The bytes themselves, and no bytes beside a refusal.
+// The bytes themselves, and none of them beside a refusal.
 pub fn kept<'a>(bytes: &'a [u8], outcome: Outcome) -> &'a [u8]
-    ensures { λ r. ⌜ now r ≡ ifDone outcome (now (bytes .entry)) [] ⌝ }
+    ensures { λ r. ⌜ spanOf r ≡ ifDone outcome (spanOf (bytes .entry)) (front (spanOf (bytes .entry))) ⌝ }
 {
     match outcome {
         Outcome::Done => bytes,
@@ -162,7 +162,7 @@ pub fn kept<'a>(bytes: &'a [u8], outcome: Outcome) -> &'a [u8]
 pub fn accepted_part<'a>(w: usize, bytes: &'a [u8], offset: Chars, len: Chars) -> &'a [u8]
     requires { ⌜ IsWidth w ⌝ }
     requires { ⌜ first (viewTests w (length (now bytes)) (offset .0) (len .0)) ≡ Done ⌝ }
-    ensures { λ r. ⌜ now r ≡ normalPart w (now (bytes .entry)) (offset .0) (len .0) ⌝ }
+    ensures { λ r. ⌜ spanOf r ≡ normalPart w (spanOf (bytes .entry)) (offset .0) (len .0) ⌝ }
 {
     let from = byte_of(w, offset).count();
     let used = bytes_for(w, Chars::new(offset.count() + len.count()));
@@ -170,11 +170,12 @@ pub fn accepted_part<'a>(w: usize, bytes: &'a [u8], offset: Chars, len: Chars) -
     &bytes[from..to]
 }
 
-// The bytes of a normalised view, and no bytes beside a refusal.
+// The bytes of a normalised view, and none of them beside a refusal.
 pub fn normal_part<'a>(w: usize, bytes: &'a [u8], offset: Chars, len: Chars) -> &'a [u8]
     requires { ⌜ IsWidth w ⌝ }
-    ensures { λ r. ⌜ now r ≡
-        ifDone (first (viewTests w (length (now (bytes .entry))) (offset .0) (len .0))) (normalPart w (now (bytes .entry)) (offset .0) (len .0)) [] ⌝ }
+    ensures { λ r. ⌜ spanOf r ≡
+        ifDone (first (viewTests w (length (now (bytes .entry))) (offset .0) (len .0)))
+        (normalPart w (spanOf (bytes .entry)) (offset .0) (len .0)) (front (spanOf (bytes .entry))) ⌝ }
 {
     match view_outcome(w, bytes, offset, len) {
         Outcome::Refused(_) => &bytes[0..0],

@@ -4,7 +4,7 @@ use Prim.Native.Nat.{ℕ, _+_, _/_, _≤_}
 use native.Mathlib.Omega.{arith}
 use lib.ListN.{length}
 use Rattle.codes.specs.Codes.{per, up}
-use Rattle.fields.specs.Fields.{part}
+use Rattle.fields.specs.Spans.{spanOf, part}
 use Rattle.fields.proofs.ViewLaws.{view-accepted, room-sum, room-start, room-end}
 use borrow.Author.Needs.{needs}
 use Rattle.fields.proofs.inner.parts.accepted_part.Statement.{statement}
@@ -70,7 +70,7 @@ part-result-end : tie.Need-part-result-end
 part-result-end c = omega (arith, used c, ends c)
 
 returns : tie.Need-returns
-returns c = ap₂ (λ (k e : ℕ). part k (e + 48) (s (c .before) .args .bytes .now)) (from (c .before)) (used (c .before))
+returns c = ap₂ (λ (k e : ℕ). part k (e + 48) (spanOf (s (c .before) .args .bytes))) (from (c .before)) (used (c .before))
 
 pub accepted-part-spec : {M : Type 1} → statement M
 accepted-part-spec =

@@ -1,9 +1,9 @@
 -- The part of an accepted view, and nothing beside a refusal. Assumes nothing.
-use mathlib.Core.List.{[]}
 use mathlib.Core.Path.{sym, _∙_}
 use lib.ListN.{length}
 use Rattle.codes.specs.Refusals.{first}
 use Rattle.fields.specs.Fields.{viewTests}
+use Rattle.fields.specs.Spans.{spanOf, front}
 use Rattle.codes.proofs.OutcomeLaws.{gives-done, gives-refused}
 use borrow.Author.Needs.{needs}
 use Rattle.fields.proofs.inner.parts.normal_part.Statement.{statement}
@@ -34,13 +34,13 @@ returns : tie.Need-returns
 returns c =
     let m = c .before .before .before in
     let a = m .before .before .args in
-    gives-refused (first (viewTests (a .w) (length (a .bytes .now)) (a .offset .0) (a .len .0))) _ _ [] (sym (m .view-outcome .ensures) ∙ c .before .enum-told .given .1)
+    gives-refused (first (viewTests (a .w) (length (a .bytes .now)) (a .offset .0) (a .len .0))) _ _ (front (spanOf (a .bytes))) (sym (m .view-outcome .ensures) ∙ c .before .enum-told .given .1)
 
 returns-2 : tie.Need-returns-2
 returns-2 c =
     let m = c .before .before .before in
     let a = m .before .before .args in
-    c .accepted-part .ensures ∙ gives-done (first (viewTests (a .w) (length (a .bytes .now)) (a .offset .0) (a .len .0))) _ [] (sym (m .view-outcome .ensures) ∙ c .before .enum-told2 .given .1)
+    c .accepted-part .ensures ∙ gives-done (first (viewTests (a .w) (length (a .bytes .now)) (a .offset .0) (a .len .0))) _ (front (spanOf (a .bytes))) (sym (m .view-outcome .ensures) ∙ c .before .enum-told2 .given .1)
 
 pub normal-part-spec : {M : Type 1} → statement M
 normal-part-spec =
