@@ -1,13 +1,13 @@
 -- A list that is written over another, from the front and one element at a time; and a run of zeros behind it.
 -- Assumes nothing.
-use mathlib.Core.List.{List, [], _∷_, _++_, append-assoc, append-nil}
+use mathlib.Core.List.{List, [], _∷_, _++_}
 use mathlib.Core.Path.{_≡_, refl, sym, ap, ap₂, _∙_, subst}
 use Prim.Native.Nat.{ℕ, suc, _+_, _-_, _≤_, _<_}
-use native.Mathlib.Nat.{le-of-lt, le-of-eq, not-suc-le-zero, add-sub-of-le}
+use native.Mathlib.Nat.{le-of-lt, not-suc-le-zero, add-sub-of-le}
 use native.Mathlib.Numerals.{add-one}
 use native.Mathlib.Omega.{arith}
-use lib.ListN.{length, getD, take, drop, set, replicate, length-append, length-drop, length-replicate, getD-replicate, List·getD-append, drop-of-length-le}
-use lib.Seq.{drop-cons, set-at, append-snoc, take-suc, take-length, length-take-le, ext-getD, getD-append-add, getD-drop, take-all, take-at, drop-at, drop-drop}
+use lib.ListN.{length, getD, take, drop, set, replicate, length-append, length-drop, length-replicate, getD-replicate, List·getD-append}
+use lib.Seq.{drop-cons, set-at, append-snoc, take-suc, take-length, length-take-le, ext-getD, getD-append-add, getD-drop}
 use Rattle.codes.specs.Zeros.{Zeroed}
 use Rattle.codes.proofs.WidthLaws.{below-or}
 
@@ -27,27 +27,7 @@ over-turn s old i out x hs ho e ex =
 pub over-all : (s old : List ℕ) (i : ℕ) → i ≡ length s → over s old i ≡ s ++ drop (length s) old
 over-all s old i e = ap (over s old) e ∙ ap (λ (l : List ℕ). l ++ drop (length s) old) (take-length s)
 
--- a is written at the front of old, and then b behind it
-pub put-on : (i k : ℕ) (a b old out out′ : List ℕ) → length a ≡ i → out ≡ a ++ drop i old → out′ ≡ take i out ++ (b ++ drop (i + k) out) → out′ ≡ (a ++ b) ++ drop (i + k) old
-put-on i k a b old out out′ l e e′ =
-    e′
-    ∙ ap₂ (λ (p q : List ℕ). p ++ (b ++ q)) (ap (take i) e ∙ take-at a (drop i old) i l) rest
-    ∙ sym (append-assoc a b (drop (i + k) old))
-  where
-    rest : drop (i + k) out ≡ drop (i + k) old
-    rest = sym (drop-drop k i out) ∙ ap (λ (l : List ℕ). drop k (drop i l)) e ∙ ap (drop k) (drop-at a (drop i old) i l) ∙ drop-drop k i old
-
--- b is written at the front of a part that was lent from n on and is back
-pub lent-on : (n m : ℕ) (b old r : List ℕ) → r ≡ b ++ drop m (take (length old - n) (drop n old)) → take n old ++ (r ++ drop (length old - n) (drop n old)) ≡ take n old ++ (b ++ drop (n + m) old)
-lent-on n m b old r e =
-    ap (λ (l : List ℕ). take n old ++ l)
-    (ap₂ (λ (p q : List ℕ). p ++ q) (e ∙ ap (λ (l : List ℕ). b ++ drop m l) (take-all (length old - n) (drop n old) short) ∙ ap (λ (l : List ℕ). b ++ l) (drop-drop m n old)) (drop-of-length-le (drop n old) short)
-    ∙ append-nil (b ++ drop (n + m) old))
-  where
-    short : length (drop n old) ≤ length old - n
-    short = le-of-eq (length-drop n old)
-
--- and one element before it
+-- one element before a list that is written from 1 on
 pub head-on : (x : ℕ) (old l : List ℕ) → 0 < length old → set (take 1 old ++ l) 0 x ≡ x ∷ l
 head-on x [] l h = absurd (not-suc-le-zero h)
 head-on x (y ∷ old) l h = refl
