@@ -5,7 +5,8 @@ use mathlib.Core.Bool.{true}
 use mathlib.Core.List.{List, [], _∷_, _++_}
 use mathlib.Core.Path.{_≡_, refl, sym, ap, ap₂, _∙_, subst}
 use Prim.Native.Nat.{ℕ, _+_, _-_, _*_, _/_, _%_, _^_, _≤_, _<_}
-use native.Mathlib.Nat.{mul-add, mul-comm, mul-left-comm, mul-zero, add-zero, sub-add-cancel, div-one, div-eq-of-lt, mod-eq-of-lt, mod-lt, div-add-mod', lt-of-lt-of-le, pos-of-ne-zero, mul-pos, div-lt-iff-lt-mul, one-mul}
+use native.Mathlib.Nat.{mul-add, mul-comm, mul-left-comm, mul-zero, one-mul, add-zero, sub-add-cancel, lt-of-lt-of-le, pos-of-ne-zero, mul-pos}
+use native.Mathlib.Nat.{div-one, div-eq-of-lt, mod-eq-of-lt, mod-lt, div-add-mod', div-lt-iff-lt-mul}
 use native.Mathlib.Decide.{ℕ-discrete}
 use native.Mathlib.Omega.{arith}
 use lib.Dec.{eqb}
@@ -18,10 +19,10 @@ use Rattle.codes.proofs.CharLaws.{length-chars, length-pack, chars-fit}
 use Rattle.codes.proofs.FieldLaws.{field-of, word-chars}
 use Rattle.codes.proofs.PackedLaws.{up-bits, packed-is}
 use Rattle.codes.proofs.TabLaws.{word-at}
+use Rattle.codes.proofs.Turns.{put-on}
 use Rattle.codes.proofs.WidthLaws.{below-or, per-pos, up-hi, up-above, up-whole, shift-lt}
 use Rattle.codes.proofs.WordLaws.{Below, word-lt, word-charsOf, charsOf-word, charsOf-add, charsOf-fit, charsOf-mod, length-charsOf}
 use Rattle.forms.specs.Forms.{allZero, spareClear}
-use Rattle.forms.proofs.WriteLaws.{put-on}
 
 -- k bytes more of x behind i
 bytes-on : (i k x y : ℕ) (old out out′ : List ℕ) → out ≡ charsOf 8 i x ++ drop i old → charsOf 8 k y ≡ charsOf 8 k (x / 2 ^ (8 * i)) → out′ ≡ take i out ++ (charsOf 8 k y ++ drop (i + k) out)
@@ -149,8 +150,12 @@ pub record Packing (w : ℕ) (s : List ℕ) (o n : ℕ) (old : List ℕ) (i p le
   pub long : length out ≡ length old
 
 module _ (w : ℕ) (s : List ℕ) (o n : ℕ) (old : List ℕ) (i p left : ℕ) (out : List ℕ) (t : Packing w s o n old i p left out) where
+  -- the bytes from the view's first bit on, as one number
+  abbrev v : ℕ
+  v = word 8 s / 2 ^ (w * o)
+
   -- what is read at p
-  here : (k : ℕ) → word 8 s / 2 ^ p % 2 ^ k ≡ word 8 s / 2 ^ (w * o) / 2 ^ (8 * i) % 2 ^ k
+  here : (k : ℕ) → word 8 s / 2 ^ p % 2 ^ k ≡ v / 2 ^ (8 * i) % 2 ^ k
   here k = ap (λ (x : ℕ). x % 2 ^ k) (ap (λ (e : ℕ). word 8 s / 2 ^ e) (t .place) ∙ sym (shr-shr (word 8 s) (w * o) (8 * i)))
 
   pub packing-turn : (x : ℕ) (out′ : List ℕ) → 64 ≤ left → x ≡ word 8 s / 2 ^ p % 2 ^ 64 → out′ ≡ take i out ++ (charsOf 8 8 x ++ drop (i + 8) out) → length out′ ≡ length out
@@ -159,15 +164,19 @@ module _ (w : ℕ) (s : List ℕ) (o n : ℕ) (old : List ℕ) (i p left : ℕ) 
       record {
         place = omega (arith, t .place);
         bits = omega (arith, t .bits);
-        done = bytes-on i 8 (word 8 s / 2 ^ (w * o) % 2 ^ (w * n)) x old out out′ (t .done) (ap (charsOf 8 8) (ex ∙ here 64 ∙ sym (field-of (word 8 s / 2 ^ (w * o)) (8 * i) 64 (w * n) (omega (arith, t .bits)))) ∙ charsOf-mod 8 8 (word 8 s / 2 ^ (w * o) % 2 ^ (w * n) / 2 ^ (8 * i))) e;
+        done = bytes-on i 8 (v % 2 ^ (w * n)) x old out out′ (t .done) (ap (charsOf 8 8) (ex ∙ here 64 ∙ sym within) ∙ charsOf-mod 8 8 (v % 2 ^ (w * n) / 2 ^ (8 * i))) e;
         long = l ∙ t .long;
       }
+    where
+      within : v % 2 ^ (w * n) / 2 ^ (8 * i) % 2 ^ 64 ≡ v / 2 ^ (8 * i) % 2 ^ 64
+      within = field-of v (8 * i) 64 (w * n) (omega (arith, t .bits))
 
   pub packing-end : IsWidth w → Below 8 s → (x k : ℕ) (out′ : List ℕ) → x ≡ word 8 s / 2 ^ p % 2 ^ left → k ≡ (left + 7) / 8 → out′ ≡ take i out ++ (charsOf 8 k x ++ drop (i + k) out)
       → out′ ≡ packed w (chars w s o n) ++ drop (up w n) old
   packing-end W bytes x k out′ ex ek e =
-      bytes-on i k (word 8 s / 2 ^ (w * o) % 2 ^ (w * n)) x old out out′ (t .done) (ap (charsOf 8 k) (ex ∙ here left ∙ sym (field (word 8 s / 2 ^ (w * o)) left (8 * i)) ∙ ap (λ (m : ℕ). word 8 s / 2 ^ (w * o) % 2 ^ m / 2 ^ (8 * i)) (t .bits))) e
-      ∙ ap (λ (m : ℕ). charsOf 8 m (word 8 s / 2 ^ (w * o) % 2 ^ (w * n)) ++ drop m old) all
+      bytes-on i k (v % 2 ^ (w * n)) x old out out′ (t .done)
+      (ap (charsOf 8 k) (ex ∙ here left ∙ sym (field v left (8 * i)) ∙ ap (λ (m : ℕ). v % 2 ^ m / 2 ^ (8 * i)) (t .bits))) e
+      ∙ ap (λ (m : ℕ). charsOf 8 m (v % 2 ^ (w * n)) ++ drop m old) all
       ∙ ap (λ (l : List ℕ). l ++ drop (up w n) old) (sym (packed-chars W s bytes o n))
     where
       all : i + k ≡ up w n

@@ -9,27 +9,7 @@ use lib.Seq.{take-all, take-at, drop-at, drop-drop}
 use Rattle.codes.specs.Made.{Made}
 use Rattle.codes.proofs.MadeLaws.{made-zeros}
 
--- a is written at the front of old, and then b behind it
-pub put-on : (i k : ℕ) (a b old out out′ : List ℕ) → length a ≡ i → out ≡ a ++ drop i old → out′ ≡ take i out ++ (b ++ drop (i + k) out) → out′ ≡ (a ++ b) ++ drop (i + k) old
-put-on i k a b old out out′ l e e′ =
-    e′
-    ∙ ap₂ (λ (p q : List ℕ). p ++ (b ++ q)) (ap (take i) e ∙ take-at a (drop i old) i l) rest
-    ∙ sym (append-assoc a b (drop (i + k) old))
-  where
-    rest : drop (i + k) out ≡ drop (i + k) old
-    rest = sym (drop-drop k i out) ∙ ap (λ (l : List ℕ). drop k (drop i l)) e ∙ ap (drop k) (drop-at a (drop i old) i l) ∙ drop-drop k i old
-
--- b is written at the front of a part that was lent from n on and is back
-pub lent-on : (n m : ℕ) (b old r : List ℕ) → r ≡ b ++ drop m (take (length old - n) (drop n old)) → take n old ++ (r ++ drop (length old - n) (drop n old)) ≡ take n old ++ (b ++ drop (n + m) old)
-lent-on n m b old r e =
-    ap (λ (l : List ℕ). take n old ++ l)
-    (ap₂ (λ (p q : List ℕ). p ++ q) (e ∙ ap (λ (l : List ℕ). b ++ l) (ap (drop m) (take-all (length old - n) (drop n old) short) ∙ drop-drop m n old)) (drop-of-length-le (drop n old) short)
-    ∙ append-nil (b ++ drop (n + m) old))
-  where
-    short : length (drop n old) ≤ length old - n
-    short = le-of-eq (length-drop n old)
-
--- and one element before it
+-- one element before a list that is written from 1 on
 pub head-on : (x : ℕ) (old l : List ℕ) → 0 < length old → set (take 1 old ++ l) 0 x ≡ x ∷ l
 head-on x [] l h = absurd (not-suc-le-zero h)
 head-on x (y ∷ old) l h = refl

@@ -71,7 +71,9 @@ fn check_form(form: &[u8]) -> Spelled
 
 // Whether bytes are a form with room for it.
 fn judge(form: &[u8], base_room: usize, flag_room: usize) -> Checked
-    ensures { λ r. ⌜ checkedSays r ≡ answer (first (formTests (now (form .entry)) «base_room» «flag_room»)) (formLength (now (form .entry)), bodyOf (headOf (now (form .entry)))) (0, 0) ⌝ }
+    ensures { λ r. ⌜ checkedSays r ≡
+        answer (first (formTests (now (form .entry)) «base_room» «flag_room»))
+        (formLength (now (form .entry)), bodyOf (headOf (now (form .entry)))) (0, 0) ⌝ }
 {
     match check_form(form) {
         Spelled::Bad => Checked::Refused(Refusal::BadForm),
@@ -90,7 +92,9 @@ fn judge(form: &[u8], base_room: usize, flag_room: usize) -> Checked
 
 // Whether a form can be read into buffers of so many bytes.
 pub fn check(form: &[u8], base_room: usize, flag_room: usize) -> Checked
-    ensures { λ r. ⌜ checkedSays r ≡ answer (first (readTests (now (form .entry)) «base_room» «flag_room»)) (formLength (now (form .entry)), bodyOf (headOf (now (form .entry)))) (0, 0) ⌝ }
+    ensures { λ r. ⌜ checkedSays r ≡
+        answer (first (readTests (now (form .entry)) «base_room» «flag_room»))
+        (formLength (now (form .entry)), bodyOf (headOf (now (form .entry)))) (0, 0) ⌝ }
 {
     if too_long(form.len()) {
         return Checked::Refused(Refusal::TooLong);

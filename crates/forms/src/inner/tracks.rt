@@ -54,7 +54,8 @@ pub fn write_track(w: usize, bytes: &[u8], offset: usize, len: usize, out: &mut 
     requires { ⌜ IsWidth w ⌝ }
     requires { ⌜ first (viewTests w (length (now bytes)) offset len) ≡ Done ⌝ }
     requires { ⌜ at + up w len ≤ length (now out) ⌝ }
-    ensures { λ _. ⌜ now (out .exit) ≡ take at (now (out .entry)) ++ (packed w (chars w (now (bytes .entry)) offset len) ++ drop (at + up w len) (now (out .entry))) ⌝ }
+    ensures { λ _. ⌜ now (out .exit) ≡
+        take at (now (out .entry)) ++ (packed w (chars w (now (bytes .entry)) offset len) ++ drop (at + up w len) (now (out .entry))) ⌝ }
 {
     pack_view(w, bytes, offset, len, &mut out[at..]);
 }

@@ -81,7 +81,8 @@ pub fn write_form(bases: &[u8], ao: usize, flags: &[u8], bo: usize, len: Chars, 
     requires { ⌜ first (viewTests 2 (length (now bases)) ao (len .0)) ≡ Done ⌝ }
     requires { ⌜ first (viewTests 1 (length (now flags)) bo (len .0)) ≡ Done ⌝ }
     requires { ⌜ (len .0 ≤ 2 ^ 29) × (formSize (len .0) ≤ length (now out)) ⌝ }
-    ensures { λ _. ⌜ now (out .exit) ≡ stored (chars 2 (now (bases .entry)) ao (len .0)) (chars 1 (now (flags .entry)) bo (len .0)) ++ drop (formSize (len .0)) (now (out .entry)) ⌝ }
+    ensures { λ _. ⌜ now (out .exit) ≡
+        stored (chars 2 (now (bases .entry)) ao (len .0)) (chars 1 (now (flags .entry)) bo (len .0)) ++ drop (formSize (len .0)) (now (out .entry)) ⌝ }
 {
     let n = len.count();
     let base_at = 1 + spelt_size(n as u64);
