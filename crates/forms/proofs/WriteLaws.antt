@@ -8,6 +8,7 @@ use lib.ListN.{length, take, drop, set, replicate, length-drop, drop-of-length-l
 use lib.Seq.{take-all, take-at, drop-at, drop-drop}
 use Rattle.codes.specs.Made.{Made}
 use Rattle.codes.proofs.MadeLaws.{made-zeros}
+use Rattle.codes.proofs.Turns.{put-on}
 
 -- one element before a list that is written from 1 on
 pub head-on : (x : ℕ) (old l : List ℕ) → 0 < length old → set (take 1 old ++ l) 0 x ≡ x ∷ l
