@@ -30,8 +30,7 @@ returns c =
     let t = a .track .now in
     let e = s .zero-run .last .0 in
     let k = s .before .before .before .before .copy .ensures in
-    let copied = k .1 ∙ ap (λ (l : List ℕ). l ++ drop (length t) (a .buffer .now)) (take-length t) in
-    zeroed-is t (a .buffer .now) 48 e (omega arith) (subst₂ (λ (l : List ℕ) (n : ℕ). Zeroed l n (n + 48) e) copied (k .0) (s .zero-run .ensures))
+    zeroed-is t (a .buffer .now) 48 e (omega arith) (subst₂ (λ (l : List ℕ) (k : ℕ). Zeroed l k (k + 48) e) (k .1 ∙ ap (λ (l : List ℕ). l ++ drop (length t) (a .buffer .now)) (take-length t)) (k .0) (s .zero-run .ensures))
 
 pub fill-spec : {M : Type 1} → statement M
 fill-spec = tie.close (tie.spec copy-requires add-zero-run zero-run-requires same-length returns)
