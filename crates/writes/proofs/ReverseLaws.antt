@@ -14,7 +14,7 @@ use Rattle.codes.specs.Words.{word, charsOf, flip, packed}
 use Rattle.codes.proofs.CharLaws.{length-chars, chars-fit}
 use Rattle.codes.proofs.CodeLaws.{complement-fits}
 use Rattle.codes.proofs.FieldLaws.{mod-low, flip-field}
-use Rattle.codes.proofs.FlipLaws.{flip-low}
+use Rattle.codes.proofs.FlipLaws.{flip-shr}
 use Rattle.codes.proofs.MadeLaws.{made-zeros}
 use Rattle.codes.proofs.PackedLaws.{packed-is}
 use Rattle.codes.proofs.WidthLaws.{width-pos, whole}
@@ -24,8 +24,8 @@ use Rattle.writes.specs.Writes.{flippedOver}
 use Rattle.writes.proofs.WriteLaws.{sets-at}
 
 -- only a word's low characters count in its flip
-flip-cut : (w : ℕ) (f : ℕ → ℕ) (k n x : ℕ) → w * k ≤ n → flip w f k (x % 2 ^ n) ≡ flip w f k x
-flip-cut w f k n x l = sym (flip-mod w f k (x % 2 ^ n)) ∙ ap (flip w f k) (mod-low x (w * k) n l) ∙ flip-mod w f k x
+flip-low : (w : ℕ) (f : ℕ → ℕ) (k n x : ℕ) → w * k ≤ n → flip w f k (x % 2 ^ n) ≡ flip w f k x
+flip-low w f k n x l = sym (flip-mod w f k (x % 2 ^ n)) ∙ ap (flip w f k) (mod-low x (w * k) n l) ∙ flip-mod w f k x
 
 -- what is left of whole characters after whole bytes
 pub rest-whole : {w : ℕ} → IsWidth w → (bits at : ℕ) → w * (bits / w) ≡ bits → 8 * at ≤ bits → (bits - 8 * at) / w + per w * at ≡ bits / w
@@ -46,9 +46,9 @@ module _ {w : ℕ} (W : IsWidth w) (s p left x r : ℕ) (e : w * (left / w) ≡ 
   pub flip-last : left ≤ 64 → x ≡ s / 2 ^ p % 2 ^ 64 → r / 2 ^ (64 - left) ≡ flip w (complement w) (left / w) (s / 2 ^ p) % 2 ^ 64
   flip-last l ex =
       ap (λ (y : ℕ). y / 2 ^ (64 - left)) er
-      ∙ subst (λ (n : ℕ). flip w (complement w) (64 / w) x / 2 ^ (64 - n) ≡ flip w (complement w) (left / w) x) e (flip-low W 8 (left / w) x fits)
+      ∙ subst (λ (n : ℕ). flip w (complement w) (64 / w) x / 2 ^ (64 - n) ≡ flip w (complement w) (left / w) x) e (flip-shr W 8 (left / w) x fits)
       ∙ ap (flip w (complement w) (left / w)) ex
-      ∙ flip-cut w (complement w) (left / w) 64 (s / 2 ^ p) fits
+      ∙ flip-low w (complement w) (left / w) 64 (s / 2 ^ p) fits
       ∙ sym (mod-eq-of-lt (subst (λ (n : ℕ). flip w (complement w) (left / w) (s / 2 ^ p) < 2 ^ n) (whole W 8) (flip-fits w (complement w) (complement-fits w) (left / w) (64 / w) (s / 2 ^ p) k)))
     where
       fits : w * (left / w) ≤ 64
@@ -62,7 +62,7 @@ module _ {w : ℕ} (W : IsWidth w) (s p left x r : ℕ) (e : w * (left / w) ≡ 
   flip-step-word l ex =
       er
       ∙ ap (flip w (complement w) (64 / w)) (ex ∙ ap (λ (y : ℕ). y % 2 ^ 64) (sym (shr-shr s p (left - 64)) ∙ ap (λ (n : ℕ). v / 2 ^ n) (sym wj)))
-      ∙ flip-cut w (complement w) (64 / w) 64 (v / 2 ^ (w * j)) (le-of-eq (whole W 8))
+      ∙ flip-low w (complement w) (64 / w) 64 (v / 2 ^ (w * j)) (le-of-eq (whole W 8))
       ∙ sym (ap (λ (n : ℕ). flip w (complement w) n v % 2 ^ 64) (sym jk)
       ∙ ap (λ (y : ℕ). y % 2 ^ 64) (flip-add w (complement w) j (64 / w) v)
       ∙ subst (λ (n : ℕ). (hi * 2 ^ (w * (64 / w)) + lo) % 2 ^ n ≡ lo) (whole W 8)

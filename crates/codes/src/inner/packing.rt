@@ -1,10 +1,14 @@
 // Letters to words and back, within one machine word and across two.
 use crate::inner::bits::wide;
-ghost use mathlib.Core.List.{_++_, map};
+use crate::refusals::Outcome;
+use crate::refusals::Refusal;
+use crate::units::Chars;
+ghost use mathlib.Core.List.{[], _∷_, _++_, map};
 ghost use mathlib.Core.Path.{_≡_};
 ghost use Prim.Native.Nat.{_+_, _*_, _%_, _^_, _≤_};
 ghost use lib.ListN.{length, drop};
 ghost use Rattle.codes.specs.Codes.{lossy, letter};
+ghost use Rattle.codes.specs.Refusals.{first, ifDone, badWord, noRoom};
 ghost use Rattle.codes.specs.Words.{word, charsOf};
 
 // The word of at most 32 letters.
@@ -56,4 +60,22 @@ pub fn unpack_pair(low: u64, high: u64, k: usize, out: &mut [u8])
         unpack(low, 32, out);
         unpack(high, k - 32, &mut out[32..]);
     }
+}
+
+// Writes the k low bases of a word of two halves, where k is at most `most` and the buffer has room.
+pub fn unpack_up_to(low: u64, high: u64, k: Chars, most: usize, out: &mut [u8]) -> Outcome
+    requires { ⌜ most ≤ 64 ⌝ }
+    ensures outcome { λ r. ⌜ r ≡ first (badWord 0 most (k .0) ∷ noRoom (length (now (out .entry))) (k .0) ∷ []) ⌝ }
+    ensures bytes { λ r. ⌜ now (out .exit) ≡
+        ifDone r (map letter (charsOf 2 (k .0) (high * 2 ^ 64 + low)) ++ drop (k .0) (now (out .entry))) (now (out .entry)) ⌝ }
+{
+    let n = k.count();
+    if most < n {
+        return Outcome::Refused(Refusal::BadWord);
+    }
+    if out.len() < n {
+        return Outcome::Refused(Refusal::NoRoom);
+    }
+    unpack_pair(low, high, n, out);
+    Outcome::Done
 }
