@@ -18,8 +18,7 @@ use streams::answers::Shape;
 ghost use mathlib.Core.Path.{_≡_};
 ghost use Rattle.codes.specs.Answers.{symbolSays, wordSays, word128Says};
 ghost use Rattle.codes.specs.Refusals.{answer, number, numberOf};
-ghost use Rattle.given.specs.Face.{said};
-ghost use Rattle.given.specs.Face.{none};
+ghost use Rattle.given.specs.Face.{said, noPart};
 ghost use Rattle.forms.specs.Answers.{wroteSays, restoredSays};
 ghost use Rattle.order.specs.Answers.{comparedSays, orderedSays, equalitySays, foundSays};
 ghost use Rattle.order.specs.Order.{orderNumber};
@@ -283,7 +282,8 @@ pub fn part(
     part_offset: &mut usize,
     part_len: &mut usize,
 ) -> u32
-    ensures { λ r. ⌜ said r (now (at .exit), now (size .exit), now («part_offset» .exit), now («part_len» .exit)) ≡ answer outcome (first, bytes, offset, len) none ⌝ }
+    ensures { λ r. ⌜ said r (now (at .exit), now (size .exit), now («part_offset» .exit), now («part_len» .exit))
+        ≡ answer outcome (first, bytes, offset, len) noPart ⌝ }
 {
     match outcome {
         Outcome::Done => {
