@@ -42,18 +42,18 @@ module _ (reader : Reader) (part bases flags other out more : List ℕ) where
   abbrev v : ℕ → Way
   v n = along n part out (way reader 0 [] bases flags other)
 
-  feed-calls : (n : ℕ) (written : List ℕ) → Calls (v n .done .reader) (v n .bases) (v n .flags) (drop (v n .done .used) part ++ more) written
+  pub feed-calls : (n : ℕ) (written : List ℕ) → Calls (v n .done .reader) (v n .bases) (v n .flags) (drop (v n .done .used) part ++ more) written
       → Calls reader bases flags (part ++ more) (v n .done .written ++ written)
   unfolding along further
   feed-calls zero written cs = cs
   feed-calls (suc n) written cs =
       let w : Way = v n in
       let m : Move = next (w .done .reader) (ahead part out w) (w .bases) (w .flags) in
-      let rest : List ℕ = drop (length (w .done .written)) out in
-      let b : Calls (w .done .reader) (w .bases) (w .flags) (drop (w .done .used) part ++ more) (front (m .written) rest ++ written) =
-      step {reader = w .done .reader} {bases = w .bases} {flags = w .flags} {written = written} (drop (w .done .used) part) more rest (rw drop-drop cs) in
-      subst (Calls reader bases flags (part ++ more)) (ap (λ (x : List ℕ). w .done .written ++ (x ++ written)) (take-append-seam (m .written) (drop (length (m .written)) rest)) ∙ sym (append-assoc (w .done .written) (m .written) written))
-      (feed-calls n (front (m .written) rest ++ written) b)
+      let o : List ℕ = drop (length (w .done .written)) out in
+      let seam : front (m .written) o ≡ m .written = take-append-seam (m .written) (drop (length (m .written)) o) in
+      rw (append-assoc, ← seam)
+      (feed-calls n (front (m .written) o ++ written)
+      (step {reader = w .done .reader} {bases = w .bases} {flags = w .flags} {written = written} (drop (w .done .used) part) more o (rw drop-drop cs)))
 
   feed-sized : Sized bases flags → (n : ℕ) → Sized (v n .bases) (v n .flags)
   unfolding along further
@@ -62,17 +62,19 @@ module _ (reader : Reader) (part bases flags other out more : List ℕ) where
 
 -- the end of the input is the finish, or nothing
 module _ (reader : Reader) (bases flags out : List ℕ) where
+  abbrev last : List ℕ
+  last = lastLines reader bases flags out
+
   end-calls : Sized bases flags → (t : Bool) → tooShort out ≡ t → (written : List ℕ) → Calls (pick t reader Reader.Ended) bases flags [] written
-      → Calls reader bases flags [] (lastLines reader bases flags out ++ written)
+      → Calls reader bases flags [] (last ++ written)
   unfolding rest lastLines
   end-calls size true e written cs = rw e cs
   end-calls size false e written cs =
-      subst (Calls reader bases flags [])
-      (take-append-seam (lastLines reader bases flags out) (drop (length (lastLines reader bases flags out)) out)
-      ∙ sym (append-nil (lastLines reader bases flags out))
-      ∙ ap (λ (x : List ℕ). lastLines reader bases flags out ++ x) (sym (calls-say cs size ended refl (omega arith))))
+      let nothing : [] ≡ written = sym (calls-say cs size ended refl (omega arith)) in
+      subst (Calls reader bases flags []) (take-append-seam last (drop (length last) out) ∙ sym (append-nil last) ∙ ap (λ (x : List ℕ). last ++ x) nothing)
       (finish out (ltb-false (length out) 96 e))
 
+-- a run that is told to stop has ended
 none : {A : Type 0} (left : Bool) → pick left Then.Write Then.Read ≡ Then.Stop → A
 none true e = let z : _≡_ {A = ℕ} 0 1 = cc in absurd (omega arith)
 none false e = let z : _≡_ {A = ℕ} 0 1 = cc in absurd (omega arith)
@@ -84,34 +86,31 @@ stops (Reader.Fresh k) left e = none left e
 stops (Reader.Within k) left e = none left e
 stops Reader.Ended left e = refl
 
--- what is written out, from what stood in the text before and after a call
+-- what is written out of a text with bytes written behind those in use
 module _ (filled : ℕ) (written text : List ℕ) (h : length written ≤ length (drop filled text)) (l : filled ≤ length text) where
-  still : filled + length written ≤ length (behind filled written text)
-  still = omega (arith, behind-length filled written text h, length-drop filled text)
+  behind-fits : filled + length written ≤ length (behind filled written text)
+  behind-fits = omega (arith, behind-length filled written text h, length-drop filled text)
 
-  put-out : (output later : List ℕ) → output ≡ take (filled + length written) (behind filled written text) ++ later → output ≡ take filled text ++ (written ++ later)
-  put-out output later e = e ∙ ap (λ (x : List ℕ). x ++ later) (behind-front filled written text h l) ∙ append-assoc (take filled text) written later
+  behind-out : (later output : List ℕ) → output ≡ take (filled + length written) (behind filled written text) ++ later → output ≡ take filled text ++ (written ++ later)
+  behind-out later output e = e ∙ ap (λ (x : List ℕ). x ++ later) (behind-front filled written text h l) ∙ append-assoc (take filled text) written later
 
-feeds-calls : {reader : Reader} {bases flags text : List ℕ} {filled : ℕ} {input output : List ℕ} → Feeds reader bases flags text filled input output
+pub feeds-calls : {reader : Reader} {bases flags text : List ℕ} {filled : ℕ} {input output : List ℕ} → Feeds reader bases flags text filled input output
     → filled ≤ length text → Sized bases flags → (written : List ℕ) × Calls reader bases flags input written × (output ≡ take filled text ++ written)
 feeds-calls {reader} {bases} {flags} {text} {filled} (feed {output} part more other s fs) l size =
     let out : List ℕ = drop filled text in
-    let w : Way = feeding reader part bases flags other out in
+    let w : List ℕ = feeding reader part bases flags other out .done .written in
     let h = feeding-within reader part bases flags other out .wrote in
-    let g = feeds-calls fs (rw (s .says, s .text) (still filled (w .done .written) text h l)) (rw (s .bases, s .flags) (feed-sized reader part bases flags other out more size (length part))) in
-    let k = rw (s .says, s .bases, s .flags, s .text) at g in (
-      w .done .written ++ k .0,
-      feed-calls reader part bases flags other out more (length part) (k .0) (k .1),
-      put-out filled (w .done .written) text h l output (k .0) (k .2),
-    )
+    let z = feed-sized reader part bases flags other out more size (length part) in
+    let g = rw (s .says, s .bases, s .flags, s .text) at (feeds-calls fs (rw (s .says, s .text) (behind-fits filled w text h l)) (rw (s .bases, s .flags) z)) in
+    (w ++ g .0, feed-calls reader part bases flags other out more (length part) (g .0) (g .1), behind-out filled w text h l (g .0) output (g .2))
 feeds-calls {reader} {bases} {flags} {text} {filled} (end {output} e t fs) l size =
     let out : List ℕ = drop filled text in
+    let w : List ℕ = lastLines reader bases flags out in
     let h = last-fits reader bases flags out in
-    let g = feeds-calls fs (rw (e, t) (still filled (lastLines reader bases flags out) text h l)) size in
-    let k = rw (e, t) at g in
-    (lastLines reader bases flags out ++ k .0, end-calls reader bases flags out size (tooShort out) refl (k .0) (k .1), put-out filled (lastLines reader bases flags out) text h l output (k .0) (k .2))
+    let g = rw (e, t) at (feeds-calls fs (rw (e, t) (behind-fits filled w text h l)) size) in
+    (w ++ g .0, end-calls reader bases flags out size (tooShort out) refl (g .0) (g .1), behind-out filled w text h l (g .0) output (g .2))
 feeds-calls {text} {filled} (write lent fs) l size = let g = feeds-calls fs (omega arith) size in (g .0, g .1, ap (λ (x : List ℕ). take filled text ++ x) (g .2))
-feeds-calls {reader} {bases} {flags} {text} (stop left more e) l size = ([], subst (λ (x : Reader). Calls x bases flags more []) (sym (stops reader left e)) (stopped more), refl)
+feeds-calls {reader} {bases} {flags} (stop left more e) l size = ([], subst (λ (x : Reader). Calls x bases flags more []) (sym (stops reader left e)) (stopped more), refl)
 
 -- an input of fewer than 2^64 - 1 bytes has fewer than 2^64 records
 module _ (text bases flags input output : List ℕ) where

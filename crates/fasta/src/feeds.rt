@@ -28,7 +28,7 @@ pub struct Fed {
     pub then: Then,
 }
 
-// Reads on in a part of the input, and puts what its steps write behind the first `filled` bytes of the text. The other buffers are
+// Reads on in a part of the input, and puts what the steps write behind the first `filled` bytes of the text. The other buffers are
 // lent as to `step`.
 pub fn feed(
     reader: Reader,
@@ -63,7 +63,7 @@ pub fn feed(
     }
 }
 
-// The end of the input: puts the last lines behind the first `filled` bytes of the text.
+// The end of the input: puts the last lines behind the first `filled` bytes of the text, or answers `Write` where they have no room.
 pub fn feed_end(
     reader: Reader,
     bases: &[u8; BASES],

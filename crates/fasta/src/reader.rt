@@ -25,7 +25,7 @@ pub struct Record {
 }
 
 // Where the bytes read so far end: before any header, in a header line after so many records, in a record at the start of
-// a line or within one, or after letters that no header came before.
+// a line or within one, or after the report: letters came before any header, or a feed has written the last lines.
 pub enum Reader {
     Start,
     Header(u64),

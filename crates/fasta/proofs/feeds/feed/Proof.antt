@@ -1,24 +1,21 @@
 -- Each turn is a step further along the feed's way; the measure is what is left of the part. Assumes nothing.
 use mathlib.Core.List.{[]}
 use mathlib.Core.Logic.{⊎-elim}
-use mathlib.Core.Path.{_≡_, refl, sym, ap, _∙_}
-use Prim.Native.Nat.{ℕ, _+_, _-_, _≤_, _<_}
+use mathlib.Core.Path.{sym, _∙_}
+use Prim.Native.Nat.{_+_, _-_, _≤_, _<_}
 use native.Mathlib.Omega.{arith}
 use borrow.Author.Needs.{needs}
 use borrow.Author.Tests.{ltb-false}
 use lib.ListN.{length, drop, length-drop}
 use Rattle.fasta.proofs.BoundLaws.{seen-empty}
-use Rattle.fasta.proofs.FeedLaws.{way, Stands, stands-first, stands-length, bounds, stands-further, stands-over}
+use Rattle.fasta.proofs.FeedLaws.{way}
+use Rattle.fasta.proofs.TurnLaws.{Stands, stands-first, stands-length, stands-bounded, stands-further, stands-over}
 use Rattle.fasta.proofs.feeds.feed.Statement.{statement}
 use Rattle.fasta.proofs.feeds.feed.Tie as tie
-use Rattle.fasta.proofs.feeds.feed.Reads as reads
-use Rattle.fasta.proofs.feeds.feed.Lts as lts
-use Rattle.fasta.proofs.feeds.is_full.Reads as is-full-reads
-use Rattle.fasta.proofs.feeds.then_after.Reads as then-after-reads
-use Rattle.fasta.proofs.reader.step.Reads as step-reads
 
 abbrev Inv-loop : tie.InvT-loop
-Inv-loop part bases₀ flags₀ other₀ text₀ filled state₀ used₀ end₀ bases flags other text state used end = Stands part text₀ filled (way state₀ 0 [] bases₀ flags₀ other₀) bases flags other text state used end
+Inv-loop part bases₀ flags₀ other₀ text₀ filled state₀ used₀ end₀ bases flags other text state used end =
+    Stands part text₀ filled (way state₀ 0 [] bases₀ flags₀ other₀) bases flags other text state used end
 
 abbrev μ-loop : tie.MeasureT-loop
 μ-loop part bases₀ flags₀ other₀ text₀ filled state₀ used₀ end₀ bases flags other text state used end = length part - used
@@ -45,7 +42,7 @@ module _ (c : tie.After-step Inv-loop μ-loop) where
       (0 < c .step .result .used)
       × (turn e .loop .used + c .step .result .used ≤ length (turn e .before .before .before .args .part .now))
       × (turn e .loop .end + c .step .result .wrote ≤ length (turn e .before .before .before .args .text .now))
-  stepped = bounds (turn e .loop .inv) (turned e) (room e) (c .step .ensures)
+  stepped = stands-bounded (turn e .loop .inv) (turned e) (room e) (c .step .ensures)
 
 loop-holds : tie.Need-loop-holds Inv-loop μ-loop
 loop-holds c =

@@ -8,7 +8,7 @@ use borrow.Author.Tests.{ltb-false}
 use lib.ListN.{length, take, drop, length-drop}
 use Rattle.fasta.specs.Steps.{tooShort}
 use Rattle.fasta.proofs.BoundLaws.{last-length}
-use Rattle.fasta.proofs.FeedLaws.{end-full, end-wrote}
+use Rattle.fasta.proofs.TurnLaws.{end-full, end-wrote}
 use Rattle.fasta.proofs.feeds.feed_end.Statement.{statement}
 use Rattle.fasta.proofs.feeds.feed_end.Tie as tie
 
