@@ -1,9 +1,9 @@
 -- For each public call: any two permitted outcomes coincide.
 -- Assumes nothing.
-use denote.Ref.{now}
 use mathlib.Core.Path.{_≡_, sym, _∙_}
 use Rattle.codes.proofs.Permitted.{Decided}
 use Rattle.codes.proofs.RefusalLaws.{says-once}
+use Rattle.fields.specs.Spans.{spanOf}
 use Rattle.order.proofs.AnswerLaws.{compared-told, ordered-told, equality-told, found-told, least-told}
 use Rattle.order.proofs.bases.cmp_lcp.Kinds as bases-cmp-lcp·kinds
 use Rattle.order.proofs.bases.cmp_lcp.Reads as bases-cmp-lcp
@@ -43,8 +43,8 @@ bases-find-decided κs a x y s t p q = says-once found-told x y (p ∙ sym q)
 pub bases-least-numbers-decided : Decided 2 bases-least-numbers·kinds.ps bases-least-numbers·kinds.r bases-least-numbers.Post
 bases-least-numbers-decided κs a x y s t p q = says-once least-told x y (p ∙ sym q)
 
--- the part is decided by its bytes
-pub bases-least-decided : (κs : _) (a : _) (x y : _) (s t : _) → bases-least.Post κs a x s → bases-least.Post κs a y t → now x ≡ now y
+-- the part is decided by its place and its bytes
+pub bases-least-decided : (κs : _) (a : _) (x y : _) (s t : _) → bases-least.Post κs a x s → bases-least.Post κs a y t → spanOf x ≡ spanOf y
 bases-least-decided κs a x y s t p q = p ∙ sym q
 
 pub flags-cmp-lcp-decided : Decided 2 flags-cmp-lcp·kinds.ps flags-cmp-lcp·kinds.r flags-cmp-lcp.Post
@@ -62,6 +62,6 @@ flags-find-decided κs a x y s t p q = says-once found-told x y (p ∙ sym q)
 pub flags-least-numbers-decided : Decided 2 flags-least-numbers·kinds.ps flags-least-numbers·kinds.r flags-least-numbers.Post
 flags-least-numbers-decided κs a x y s t p q = says-once least-told x y (p ∙ sym q)
 
--- the part is decided by its bytes
-pub flags-least-decided : (κs : _) (a : _) (x y : _) (s t : _) → flags-least.Post κs a x s → flags-least.Post κs a y t → now x ≡ now y
+-- the part is decided by its place and its bytes
+pub flags-least-decided : (κs : _) (a : _) (x y : _) (s t : _) → flags-least.Post κs a x s → flags-least.Post κs a y t → spanOf x ≡ spanOf y
 flags-least-decided κs a x y s t p q = p ∙ sym q

@@ -1,6 +1,7 @@
 pub mod OrderLaws
 pub mod LcpLaws
 pub mod FindLaws
+pub mod LeastLaws
 pub mod Viewed
 pub mod AnswerLaws
 pub mod Decided

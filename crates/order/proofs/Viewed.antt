@@ -12,11 +12,13 @@ use Rattle.codes.specs.Codes.{IsWidth, per, chars, pick}
 use Rattle.codes.specs.Refusals.{answer, first, ifDone, numberOf}
 use Rattle.codes.specs.declared.refusals.Outcome.{Outcome}
 use Rattle.codes.specs.declared.refusals.Outcome.the-variants.{Done}
-use Rattle.order.specs.Order.{pairOutcome, pairOrder, pairTests, compare, common, placeOf, orderNumber, compared, ordered, isEqual, equalled, placed, found, isSecond, leastBytes, leastNumbers}
-use Rattle.fields.specs.Fields.{viewTests, normalPart}
+use Rattle.order.specs.Order.{pairOutcome, pairOrder, pairTests, compare, common, placeOf, orderNumber, compared, ordered, isEqual, equalled, placed, found, isSecond, chosen}
+use Rattle.fields.specs.Fields.{viewTests}
+use Rattle.fields.specs.Spans.{Span}
 use Rattle.codes.proofs.CharLaws.{same-length}
 use Rattle.codes.proofs.OutcomeLaws.{passed}
-use Rattle.fields.proofs.ViewLaws.{view-accepted, normal-chars}
+use Rattle.views.specs.Views.{Lent, empty, normal}
+use Rattle.views.proofs.SliceLaws.{Holds, held, normal-holds}
 use Rattle.views.proofs.Viewed.{Same}
 
 -- two accepted views are accepted together
@@ -28,34 +30,23 @@ pair-done w m ao al n bo bl e f =
     let s = passed (ltb (n * per w) (bo + bl + 48 * per w)) _ _ (r .1) in
     simp (p .0, q .0, r .0, s .0)
 
--- the characters of the part that comes first
-abbrev pub leastChars : ℕ → List ℕ → ℕ → ℕ → List ℕ → ℕ → ℕ → List ℕ
-leastChars w us ao al bs bo bl = chars w (leastBytes w us ao al bs bo bl) (leastNumbers w us ao al bs bo bl .values .0) (leastNumbers w us ao al bs bo bl .values .1)
+-- the part that comes first is an accepted view, with the characters of the view that does
+module _ {w : ℕ} (W : IsWidth w) (s : Span) (ao al : ℕ) (t : Span) (bo bl : ℕ) where
+  pub chosen-holds : first (viewTests w (length (s .bytes)) ao al) ≡ Done → first (viewTests w (length (t .bytes)) bo bl) ≡ Done
+      → (chosen w s ao al t bo bl .no ≡ 0)
+      × Holds w (pick (isSecond (pairOrder w (s .bytes) ao al (t .bytes) bo bl)) (chars w (t .bytes) bo bl) (chars w (s .bytes) ao al)) (chosen w s ao al t bo bl .values)
+  unfolding chosen
+  chosen-holds e f = held (picked second) (empty s) (pair-done w (length (s .bytes)) ao al (length (t .bytes)) bo bl e f) (by-case second)
+    where
+      second : Bool
+      second = isSecond (pairOrder w (s .bytes) ao al (t .bytes) bo bl)
 
-module _ {w : ℕ} (W : IsWidth w) (us : List ℕ) (ao al : ℕ) (bs : List ℕ) (bo bl : ℕ) (e : first (viewTests w (length us) ao al) ≡ Done) (f : first (viewTests w (length bs) bo bl) ≡ Done) where
-  abbrev numbers : Bool → ℕ × ℕ
-  numbers b = pick b (bo % per w, bl) (ao % per w, al)
+      picked : Bool → Lent
+      picked b = pick b (normal w t bo bl) (normal w s ao al)
 
-  length-chosen : (b : Bool) → numbers b .1 ≡ pick b bl al
-  length-chosen true = refl
-  length-chosen false = refl
-
-  chars-chosen : (b : Bool) → chars w (pick b (normalPart w bs bo bl) (normalPart w us ao al)) (numbers b .0) (numbers b .1) ≡ pick b (chars w bs bo bl) (chars w us ao al)
-  chars-chosen true = normal-chars W bs bo bl (view-accepted w (length bs) bo bl f)
-  chars-chosen false = normal-chars W us ao al (view-accepted w (length us) ao al e)
-
-  least-is : (leastNumbers w us ao al bs bo bl .no ≡ 0)
-      × (leastNumbers w us ao al bs bo bl .values .1 ≡ pick (isSecond (pairOrder w us ao al bs bo bl)) bl al)
-      × (leastChars w us ao al bs bo bl ≡ pick (isSecond (pairOrder w us ao al bs bo bl)) (chars w bs bo bl) (chars w us ao al))
-  unfolding leastBytes leastNumbers
-  least-is =
-      let d = pair-done w (length us) ao al (length bs) bo bl e f in
-      let b : Bool = isSecond (pairOrder w us ao al bs bo bl) in
-      let part : List ℕ = pick b (normalPart w bs bo bl) (normalPart w us ao al) in (
-        ap numberOf d,
-        ap (λ (q : Outcome). ifDone q (numbers b) (0, 0) .1) d ∙ length-chosen b,
-        ap (λ (q : Outcome). chars w (ifDone q part []) (ifDone q (numbers b) (0, 0) .0) (ifDone q (numbers b) (0, 0) .1)) d ∙ chars-chosen b,
-      )
+      by-case : (b : Bool) → Holds w (pick b (chars w (t .bytes) bo bl) (chars w (s .bytes) ao al)) (picked b)
+      by-case true = normal-holds t bo bl f W
+      by-case false = normal-holds s ao al e W
 
 -- two views each: a call's answer by the outcome, the lengths and the characters
 module _ {w : ℕ} {us : List ℕ} {ao al : ℕ} {xs : List ℕ} {xo xl : ℕ} (s : Same w us ao al xs xo xl) {bs : List ℕ} {bo bl : ℕ} {ys : List ℕ} {yo yl : ℕ} (t : Same w bs bo bl ys yo yl) where
@@ -82,16 +73,18 @@ module _ {w : ℕ} {us : List ℕ} {ao al : ℕ} {xs : List ℕ} {xo xl : ℕ} (
   unfolding found
   found-viewed = pair-viewed (λ q cs ds. answer q (placed (placeOf cs ds)) (false, 0))
 
-  -- the part that comes first: its number, its length and its characters. Its offset within a byte is its own
-  pub least-viewed : IsWidth w
-      → (leastNumbers w us ao al bs bo bl .no ≡ leastNumbers w xs xo xl ys yo yl .no)
-      × (leastNumbers w us ao al bs bo bl .values .1 ≡ leastNumbers w xs xo xl ys yo yl .values .1)
-      × (leastChars w us ao al bs bo bl ≡ leastChars w xs xo xl ys yo yl)
-  least-viewed W =
-      let l = least-is W us ao al bs bo bl (s .left) (t .left) in
-      let r = least-is W xs xo xl ys yo yl (s .right) (t .right) in
-      let second : isSecond (pairOrder w us ao al bs bo bl) ≡ isSecond (pairOrder w xs xo xl ys yo yl) = λ i. isSecond (compare (s .same i) (t .same i)) in (
-        l .0 ∙ sym (r .0),
-        l .1 ∙ (λ i. pick (second i) (same-length w bs bo bl ys yo yl (t .same) i) (same-length w us ao al xs xo xl (s .same) i)) ∙ sym (r .1),
-        l .2 ∙ (λ i. pick (second i) (t .same i) (s .same i)) ∙ sym (r .2),
-      )
+-- the part that comes first: its number, its length and its characters. Its bytes, their place and its offset within a byte are its own
+module _ {w : ℕ} (W : IsWidth w) (s : Span) {ao al : ℕ} (x : Span) {xo xl : ℕ} (e : Same w (s .bytes) ao al (x .bytes) xo xl) (t : Span) {bo bl : ℕ} (y : Span) {yo yl : ℕ} (f : Same w (t .bytes) bo bl (y .bytes) yo yl) where
+  abbrev mine : Lent
+  mine = chosen w s ao al t bo bl .values
+
+  abbrev other : Lent
+  other = chosen w x xo xl y yo yl .values
+
+  pub chosen-viewed : (chosen w s ao al t bo bl .no ≡ chosen w x xo xl y yo yl .no) × (mine .len ≡ other .len)
+      × (chars w (mine .span .bytes) (mine .offset) (mine .len) ≡ chars w (other .span .bytes) (other .offset) (other .len))
+  chosen-viewed =
+      let l = chosen-holds W s ao al t bo bl (e .left) (f .left) in
+      let r = chosen-holds W x xo xl y yo yl (e .right) (f .right) in
+      let same = l .1 .characters ∙ (λ i. pick (isSecond (compare (e .same i) (f .same i))) (f .same i) (e .same i)) ∙ sym (r .1 .characters) in
+      (l .0 ∙ sym (r .0), same-length w (mine .span .bytes) (mine .offset) (mine .len) (other .span .bytes) (other .offset) (other .len) same, same)

@@ -3,16 +3,18 @@
 use mathlib.Core.Bool.{Bool, true, false, _&&_}
 use mathlib.Core.List.{List, [], _∷_}
 use mathlib.Core.Option.{Option, some, none}
-use Prim.Native.Nat.{ℕ, suc, _%_}
+use Prim.Native.Nat.{ℕ, suc}
 use lib.Dec.{ltb, eqb}
 use lib.IntN.{ℤ, pos, negsuc}
 use lib.ListN.{length}
-use Rattle.codes.specs.Codes.{per, pick, chars}
+use Rattle.codes.specs.Codes.{pick, chars}
 use Rattle.codes.specs.Refusals.{Test, Answer, answer, first, tooLong, badView, ifDone}
 use Rattle.codes.specs.declared.refusals.Outcome.{Outcome}
-use Rattle.fields.specs.Fields.{normalPart}
+use Rattle.fields.specs.Spans.{Span}
+use Rattle.views.specs.Views.{Lent, empty, normal}
 use Rattle.order.specs.declared.answers.Order.{Order}
 use Rattle.order.specs.declared.answers.Order.the-variants.{Less, Equal, Greater}
+use Rattle.order.specs.declared.inner.least.Choice.{Choice}
 
 -- −1, 0 or 1
 abbrev pub orderNumber : Order → ℤ
@@ -91,9 +93,16 @@ module _ (w : ℕ) (xs : List ℕ) (ao al : ℕ) (bs : List ℕ) (bo bl : ℕ) w
   unfoldable pub found : Answer (Bool × ℕ)
   found = answer pairOutcome (placed (placeOf (chars w xs ao al) (chars w bs bo bl))) (false, 0)
 
-  -- the normalised part of the view that comes first, and that part's offset and length
-  unfoldable pub leastBytes : List ℕ
-  leastBytes = ifDone pairOutcome (pick (isSecond pairOrder) (normalPart w bs bo bl) (normalPart w xs ao al)) []
+  -- which of the two comes first
+  abbrev pub choice : Choice
+  choice = record { second = ifDone pairOutcome (isSecond pairOrder) false; outcome = pairOutcome }
 
-  unfoldable pub leastNumbers : Answer (ℕ × ℕ)
-  leastNumbers = answer pairOutcome (pick (isSecond pairOrder) (bo % per w, bl) (ao % per w, al)) (0, 0)
+-- the normalised part of the view that comes first; where a view is refused, the empty part at the front of the first
+unfoldable pub chosen : ℕ → Span → ℕ → ℕ → Span → ℕ → ℕ → Answer Lent
+chosen w s ao al t bo bl =
+    answer (pairOutcome w (s .bytes) ao al (t .bytes) bo bl)
+    (pick (isSecond (pairOrder w (s .bytes) ao al (t .bytes) bo bl)) (normal w t bo bl) (normal w s ao al)) (empty s)
+
+-- the offset and the length of a part
+abbrev pub numbersIn : Answer Lent → Answer (ℕ × ℕ)
+numbersIn x = record { no = x .no; values = (x .values .offset, x .values .len) }

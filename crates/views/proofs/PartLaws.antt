@@ -31,7 +31,8 @@ view-of n s = record { bytes = s; offset = n .offset; len = n .len }
 abbrev pub part-of : Numbers → RefT (List ℕ) → Part
 part-of n s = record { view = view-of n s; outcome = n .outcome }
 
-numbers-outcome : (n : Numbers) (q : Outcome) (v : ℕ × ℕ) → numbersSay n ≡ answer q v (0, 0) → n .outcome ≡ q
+-- numbers tell their outcome
+pub numbers-outcome : (n : Numbers) (q : Outcome) (v : ℕ × ℕ) → numbersSay n ≡ answer q v (0, 0) → n .outcome ≡ q
 numbers-outcome n q v e = sym (outcomeAt-number (n .outcome)) ∙ ap (λ (x : Answer (ℕ × ℕ)). outcomeAt (x .no)) e ∙ outcomeAt-number q
 
 -- a part of the span s, by its numbers n and the slice r that holds its bytes

@@ -20,7 +20,7 @@ use Rattle.codes.proofs.OutcomeLaws.{first-next, first-holds, first-done, first
 use Rattle.fields.specs.Fields.{viewTests, sliceTests, got}
 use Rattle.fields.specs.Spans.{Span, normalPart}
 use Rattle.fields.proofs.ViewLaws.{Room, view-accepted, slice-cut, room-start, room-end, normal-chars}
-use Rattle.views.specs.Views.{Lent, lent, empty, made, sliced, normalised, gotSliced}
+use Rattle.views.specs.Views.{Lent, lent, empty, normal, made, sliced, normalised, gotSliced}
 
 -- a part is an accepted view with these characters
 pub record Holds (w : ℕ) (cs : List ℕ) (p : Lent) : Type 0 where
@@ -43,7 +43,8 @@ chars-between w bs o len start end l m =
     whole : start + (end - start + (len - end)) ≡ len
     whole = omega arith
 
-held : {w : ℕ} {cs : List ℕ} {q : Outcome} (p z : Lent) → q ≡ Done → Holds w cs p → (answer q p z .no ≡ 0) × Holds w cs (answer q p z .values)
+-- where a call is done, its part holds what it should
+pub held : {w : ℕ} {cs : List ℕ} {q : Outcome} (p z : Lent) → q ≡ Done → Holds w cs p → (answer q p z .no ≡ 0) × Holds w cs (answer q p z .values)
 held {w} {cs} {q} p z d h = subst (λ (x : Outcome). (answer x p z .no ≡ 0) × Holds w cs (answer x p z .values)) (sym d) (refl, h)
 
 module _ {w : ℕ} (s : Span) (o len : ℕ) (e : first (viewTests w (length (s .bytes)) o len) ≡ Done) where
@@ -57,9 +58,8 @@ module _ {w : ℕ} (s : Span) (o len : ℕ) (e : first (viewTests w (length (s .
       held (lent s (o + start) (end - start)) (empty s) d
       (record { accepted = room-done w (length (s .bytes)) (o + start) (end - start) (record { small = r .small; fits = omega (arith, r .fits) }); characters = chars-between w (s .bytes) o len start end l m })
 
-  pub normalised-holds : IsWidth w → (normalised w s o len .no ≡ 0) × Holds w (chars w (s .bytes) o len) (normalised w s o len .values)
-  unfolding normalised
-  normalised-holds W =
+  pub normal-holds : IsWidth w → Holds w (chars w (s .bytes) o len) (normal w s o len)
+  normal-holds W =
       let r = view-accepted w (length (s .bytes)) o len e in
       let from : ℕ = o / per w in
       let to : ℕ = up w (o + len) + 48 in
@@ -67,14 +67,17 @@ module _ {w : ℕ} (s : Span) (o len : ℕ) (e : first (viewTests w (length (s .
       let a = add-mul from (to - from) (per w) in
       let b : from + (to - from) ≡ to = add-sub-of-le (room-start W r) in
       let c : (from + (to - from)) * per w ≡ to * per w = ap (λ (x : ℕ). x * per w) b in
-      held (lent (normalPart w s o len) (o % per w) len) (empty s) e
-      (record {
+      record {
         accepted = room-done w (length (normalPart w s o len .bytes)) (o % per w) len (record {
           small = omega (arith, r .small, room-end W r);
           fits = rw long (omega (arith, add-mul (up w (o + len)) 48 (per w), up-hi W (o + len), div-add-mod' o (per w)));
         });
         characters = normal-chars W s o len r;
-      })
+      }
+
+  pub normalised-holds : IsWidth w → (normalised w s o len .no ≡ 0) × Holds w (chars w (s .bytes) o len) (normalised w s o len .values)
+  unfolding normalised
+  normalised-holds W = held (normal w s o len) (empty s) e (normal-holds W)
 
   pub made-holds : Holds w (chars w (s .bytes) o len) (made w s o len .values)
   unfolding made

@@ -21,6 +21,10 @@ lent s o len = record { span = s; offset = o; len = len }
 abbrev pub empty : Span → Lent
 empty s = lent (front s) 0 0
 
+-- a view's normalised part, with offset mod C8
+abbrev pub normal : ℕ → Span → ℕ → ℕ → Lent
+normal w s o len = lent (normalPart w s o len) (o % per w) len
+
 -- a view is made
 unfoldable pub made : ℕ → Span → ℕ → ℕ → Answer Lent
 made w s o len = answer (first (viewTests w (length (s .bytes)) o len)) (lent s o len) (empty s)
@@ -29,9 +33,9 @@ made w s o len = answer (first (viewTests w (length (s .bytes)) o len)) (lent s 
 unfoldable pub sliced : ℕ → Span → ℕ → ℕ → ℕ → ℕ → Answer Lent
 sliced w s o len start end = answer (first (sliceTests w (length (s .bytes)) o len start end)) (lent s (o + start) (end - start)) (empty s)
 
--- normalising hands back the part, with offset mod C8
+-- normalising hands back the part
 unfoldable pub normalised : ℕ → Span → ℕ → ℕ → Answer Lent
-normalised w s o len = answer (first (viewTests w (length (s .bytes)) o len)) (lent (normalPart w s o len) (o % per w) len) (empty s)
+normalised w s o len = answer (first (viewTests w (length (s .bytes)) o len)) (normal w s o len) (empty s)
 
 -- the character at an index of a slice
 unfoldable pub gotSliced : ℕ → List ℕ → ℕ → ℕ → ℕ → ℕ → ℕ → Answer ℕ

@@ -1,0 +1,61 @@
+-- Which of two views comes first, and its part by that choice.
+-- Assumes nothing.
+use mathlib.Core.Bool.{Bool, true, false}
+use mathlib.Core.List.{List}
+use mathlib.Core.Path.{_≡_, refl, sym, ap, _∙_}
+use Prim.Native.Nat.{ℕ, _%_}
+use Rattle.codes.specs.Codes.{per, pick}
+use Rattle.codes.specs.Refusals.{Answer, answer, ifDone}
+use Rattle.codes.specs.declared.refusals.Outcome.{Outcome}
+use Rattle.codes.specs.declared.refusals.Outcome.the-variants.{Done, Refused}
+use Rattle.codes.specs.declared.refusals.Refusal.{Refusal}
+use Rattle.codes.proofs.OutcomeLaws.{answer-refused}
+use Rattle.fields.specs.Answers.{numbersSay}
+use Rattle.fields.specs.Spans.{Span, front, normalPart}
+use Rattle.fields.specs.declared.inner.parts.Numbers.{Numbers}
+use Rattle.views.specs.Views.{Lent, empty, normal}
+use Rattle.views.proofs.PartLaws.{numbers-outcome}
+use Rattle.order.specs.Order.{pairOutcome, pairOrder, isSecond, choice, chosen, numbersIn}
+use Rattle.order.specs.declared.inner.least.Choice.{Choice}
+
+-- by the outcome, and whether the second comes first
+abbrev choiceBy : Outcome → Bool → Choice
+choiceBy q b = record { second = ifDone q b false; outcome = q }
+
+pub choice-is : (w : ℕ) (xs : List ℕ) (ao al : ℕ) (bs : List ℕ) (bo bl : ℕ) (q : Outcome) (b : Bool)
+    → q ≡ pairOutcome w xs ao al bs bo bl → b ≡ isSecond (pairOrder w xs ao al bs bo bl) → choiceBy q b ≡ choice w xs ao al bs bo bl
+choice-is w xs ao al bs bo bl q b e f = λ i. choiceBy (e i) (f i)
+
+-- numbers that are refused are zeros
+pub numbers-refused : (n : Numbers) (q : Outcome) (v : ℕ × ℕ) (r : Refusal) → numbersSay n ≡ answer q v (0, 0) → n .outcome ≡ Refused r → answer (Refused r) (0, 0) (0, 0) ≡ numbersSay n
+numbers-refused n q v r e d = answer-refused q r v (0, 0) (sym (numbers-outcome n q v e) ∙ d) ∙ sym e
+
+module _ (w : ℕ) (s : Span) (ao al : ℕ) (t : Span) (bo bl : ℕ) where
+  -- the bytes and the numbers of the part, by a choice
+  abbrev pub spanBy : Choice → Span
+  spanBy c = ifDone (c .outcome) (pick (c .second) (normalPart w t bo bl) (normalPart w s ao al)) (front s)
+
+  abbrev pub numbersBy : Choice → Answer (ℕ × ℕ)
+  numbersBy c = answer (c .outcome) (pick (c .second) (bo % per w, bl) (ao % per w, al)) (0, 0)
+
+  abbrev chosenBy : Outcome → Bool → Answer Lent
+  chosenBy q b = answer q (pick b (normal w t bo bl) (normal w s ao al)) (empty s)
+
+  span-by : (q : Outcome) (b : Bool) → spanBy (choiceBy q b) ≡ chosenBy q b .values .span
+  span-by Done true = refl
+  span-by Done false = refl
+  span-by (Refused r) b = refl
+
+  numbers-by : (q : Outcome) (b : Bool) → numbersBy (choiceBy q b) ≡ numbersIn (chosenBy q b)
+  numbers-by Done true = refl
+  numbers-by Done false = refl
+  numbers-by (Refused r) b = refl
+
+  module _ (c : Choice) (e : c ≡ choice w (s .bytes) ao al (t .bytes) bo bl) where
+    pub span-chosen : spanBy c ≡ chosen w s ao al t bo bl .values .span
+    unfolding chosen
+    span-chosen = ap spanBy e ∙ span-by (pairOutcome w (s .bytes) ao al (t .bytes) bo bl) (isSecond (pairOrder w (s .bytes) ao al (t .bytes) bo bl))
+
+    pub numbers-chosen : numbersBy c ≡ numbersIn (chosen w s ao al t bo bl)
+    unfolding chosen
+    numbers-chosen = ap numbersBy e ∙ numbers-by (pairOutcome w (s .bytes) ao al (t .bytes) bo bl) (isSecond (pairOrder w (s .bytes) ao al (t .bytes) bo bl))
