@@ -48,6 +48,10 @@ module _ {f : ℕ → ℕ} {from : ℕ} {d : List ℕ} where
     above = λ j h. y .above j h ∙ z .above j (omega arith);
   }
 
+  -- a second run by the same rule
+  pub made-on : {mid to : ℕ} {e x : List ℕ} → Made f from mid d e → Made f mid to e x → from ≤ mid → mid ≤ to → Made f from to d x
+  made-on z y a b = made-join z y a b (λ j h l q. refl)
+
   -- the same run by another rule
   pub made-as : {to : ℕ} {g : ℕ → ℕ} {e : List ℕ} → Made g from to d e → ((j : ℕ) → from ≤ j → j < to → g j ≡ f j) → Made f from to d e
   made-as z s = record { long = z .long; below = z .below; new = λ j h l. z .new j h l ∙ s j h l; above = z .above }
@@ -75,7 +79,8 @@ made-parts {f} {d} {e} a k z l =
     middle =
         let p : length (take k (drop a e)) ≡ k = length-take-le k (drop a e) (omega (arith, z .long, length-drop a e)) in
         ext-getD 0 (take k (drop a e)) (tab k (λ i. f (a + i))) (p ∙ sym (length-tab k (λ i. f (a + i))))
-        (λ i h. let m : i < k = omega arith in
+        (λ i h.
+        let m : i < k = omega arith in
         getD-take k (drop a e) i 0 m ∙ getD-drop a e i 0 ∙ z .new (a + i) (omega arith) (omega arith) ∙ sym (getD-tab k (λ i. f (a + i)) i m))
 
     back : drop (a + k) e ≡ drop (a + k) d

@@ -5,14 +5,14 @@ use mathlib.Core.Path.{_≡_, sym, ap, _∙_, subst}
 use Prim.Native.Nat.{ℕ, _+_, _-_, _*_, _/_, _%_, _^_, _≤_, _<_}
 use native.Mathlib.Nat.{mod-lt, mul-le-mul-right, suc-mul, add-mul, div-mul-le-self, le-trans}
 use native.Mathlib.Omega.{arith}
-use lib.ListN.{length, getD}
+use lib.ListN.{length, getD, set}
 use lib.Pow.{pow-pos}
 use lib.Seq.{ext-getD}
 use Rattle.codes.specs.Codes.{IsWidth, per, charAt, tab, code}
 use Rattle.codes.specs.Made.{Made}
 use Rattle.codes.specs.Words.{word}
 use Rattle.codes.proofs.CharLaws.{charAt-at, byte-charAt, getD-pack, length-pack}
-use Rattle.codes.proofs.MadeLaws.{made-join, made-as}
+use Rattle.codes.proofs.MadeLaws.{made-more, made-next, made-join, made-as}
 use Rattle.codes.proofs.TabLaws.{length-tab, tab-ext, Below-tab}
 use Rattle.codes.proofs.WidthLaws.{below-or}
 use Rattle.codes.proofs.WordLaws.{word-lt}
@@ -27,6 +27,15 @@ fresh-lt w old at cs stop h i k = splice-lt (λ j. old / 2 ^ (w * k) % 2 ^ w) at
 -- the first n characters of a word
 pub word-tab-lt : (w n : ℕ) (f : ℕ → ℕ) → ((i : ℕ) → f i < 2 ^ w) → word w (tab n f) < 2 ^ (w * n)
 word-tab-lt w n f h = subst (λ (e : ℕ). word w (tab n f) < 2 ^ (w * e)) (length-tab n f) (word-lt w (tab n f) (Below-tab w n f h))
+
+-- a byte made anew of the same byte; so a run grows by what is made of the buffer as it is
+module _ (w at : ℕ) (cs : List ℕ) (stop : ℕ) where
+  anew-same : (d e : List ℕ) (j : ℕ) → getD e j 0 ≡ getD d j 0 → anew w e at cs stop j ≡ anew w d at cs stop j
+  anew-same d e j q = ap (λ (x : ℕ). freshByte w x at cs stop j) q
+
+  pub anew-more : {from j v : ℕ} {d e : List ℕ} → Made (anew w d at cs stop) from j d e → from ≤ j → j < length d → v ≡ anew w e at cs stop j
+      → Made (anew w d at cs stop) from (j + 1) d (set e j v)
+  anew-more {j = j} {d = d} {e} z a l q = made-more z a l (q ∙ anew-same d e j (made-next z))
 
 module _ {w : ℕ} (W : IsWidth w) (d : List ℕ) (at : ℕ) (cs : List ℕ) (stop : ℕ) where
   -- character i of the new buffer, and byte b
@@ -78,10 +87,8 @@ module _ {w : ℕ} (W : IsWidth w) (d : List ℕ) (at : ℕ) (cs : List ℕ) (st
         → first ≡ at / per w → first ≤ mid → mid ≤ to → to ≤ last → stop ≤ last * per w
         → ((j : ℕ) → mid ≤ j → j < to → g j ≡ anew w e at cs stop j) → x ≡ spliced w d at cs stop
     made-three {e = e} {f} p q r i a b c s h =
+        let same = anew-same w at cs stop d in
         made-splice (made-join (made-join p q a b (λ j l m o. h j l m ∙ same e j o)) r (le-trans a b) c (λ j l m o. same f j o)) i s
-      where
-        same : (y : List ℕ) (j : ℕ) → getD y j 0 ≡ getD d j 0 → anew w y at cs stop j ≡ anew w d at cs stop j
-        same y j o = ap (λ (v : ℕ). freshByte w v at cs stop j) o
 
 -- a byte of new letters alone
 pub whole-fresh : (w old at : ℕ) (ls : List ℕ) (stop b : ℕ) → at ≤ b * per w → b * per w + per w ≤ stop → b * per w - at + per w ≤ length ls

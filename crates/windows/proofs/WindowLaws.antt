@@ -14,7 +14,7 @@ use borrow.Author.Tests.{lt-ltb, le-ltb}
 use Rattle.codes.specs.Codes.{pick, tab}
 use Rattle.codes.specs.Made.{Made}
 use Rattle.codes.specs.Windows.{anySet, window}
-use Rattle.codes.proofs.MadeLaws.{made-none, made-join, made-as, made-to}
+use Rattle.codes.proofs.MadeLaws.{made-none, made-on, made-as, made-to}
 use Rattle.codes.proofs.OutcomeLaws.{or-true}
 use Rattle.codes.proofs.TabLaws.{getD-tab, tab-ext}
 use Rattle.codes.proofs.WidthLaws.{below-or}
@@ -133,7 +133,7 @@ turns-more k skip j t words {now = now} {next} h few e w flags n holds m =
     let q = e ∙ mark-more flags n k skip j t words now few holds (p .0) in
     let s : j + t + 1 ≡ j + (t + 1) = add-assoc j t 1 in (
       q ∙ ap (λ (i : ℕ). tab 8 (untilAt flags n k i)) s,
-      made-to (made-join (p .1) (marks-show flags n k skip (j + t) next q w) (omega arith) (omega arith) (λ i a b c. refl)) (ap (λ (i : ℕ). 8 * (i - skip)) s),
+      made-to (made-on (p .1) (marks-show flags n k skip (j + t) next q w) (omega arith) (omega arith)) (ap (λ (i : ℕ). 8 * (i - skip)) s),
     )
 
 pub turns-none : (k skip j : ℕ) (words marks x : List ℕ) → TurnsMarks k skip j 0 words marks marks x x

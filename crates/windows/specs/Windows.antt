@@ -30,6 +30,7 @@ laneWindow flags n k j l = pick (window flags (l * n + (suc j - k)) (min k (suc 
 abbrev pub windowEntry : List ℕ → ℕ → ℕ → ℕ → ℕ → ℕ
 windowEntry flags n k skip q = laneWindow flags n k (skip + q / 8) (q % 8)
 
+-- later entries stay
 unfoldable pub windowsFilled : List ℕ → ℕ → ℕ → ℕ → ℕ → List ℕ → List ℕ
 windowsFilled flags n k skip count out = tab (8 * count) (windowEntry flags n k skip) ++ drop (8 * count) out
 
@@ -50,6 +51,7 @@ summed flags n s l = getD (s .counts) l 0 + laneChar flags n 0 (s .at) l
 abbrev pub leaving : List ℕ → ℕ → ℕ → Running → ℕ → ℕ
 leaving flags n k s l = laneChar flags n (k - 1) (s .at) l
 
+-- a lane below l passes the test
 abbrev pub anyLane : ℕ → (ℕ → Bool) → Bool
 anyLane zero f = false
 anyLane (suc l) f = anyLane l f || f l
@@ -105,6 +107,5 @@ runState bs o len c k s = ifDone (runOutcome bs o len c k s) (stepState (chars 1
 
 -- the state after j steps from step 0 with zero counts
 unfoldable pub ran : List ℕ → ℕ → ℕ → ℕ → ℕ → ℕ → Running
-unfolding runState
 ran bs o len c k zero = atZero
 ran bs o len c k (suc j) = runState bs o len c k (ran bs o len c k j)

@@ -7,7 +7,7 @@ use native.Mathlib.Omega.{arith}
 use borrow.Author.Needs.{needs}
 use Rattle.codes.specs.Codes.{chars}
 use Rattle.codes.specs.Made.{Made}
-use Rattle.codes.proofs.MadeLaws.{made-none, made-join, made-to, made-is}
+use Rattle.codes.proofs.MadeLaws.{made-none, made-on, made-to, made-is}
 use Rattle.codes.proofs.WidthLaws.{below-or, width-pos}
 use Rattle.lanes.specs.Lanes.{laneEntry, filled}
 use Rattle.lanes.proofs.TurnLaws.{filled-early, filled-more, width-turn}
@@ -132,7 +132,7 @@ returns c =
     let p = c .before .before in
     let a = s p .args in
     let front = filled-early (cs p) (a .n) (a .d) (start p) (start-left p) (p .before .before .zero-entries .ensures) in
-    made-is (made-join front (made-to {to = 8 * a .steps} (c .before .loop .inv .2) (omega arith)) (omega arith) (omega (arith, start-right p)) (λ j h l q. refl)) (s p .pre .1 .1 .2)
+    made-is (made-on front (made-to {to = 8 * a .steps} (c .before .loop .inv .2) (omega arith)) (omega arith) (omega (arith, start-right p))) (s p .pre .1 .1 .2)
 
 pub fill-lanes-spec : {M : Type 1} → statement M
 fill-lanes-spec =

@@ -1,12 +1,12 @@
 -- The invariant: the bytes up to j are made anew. Assumes nothing.
 use mathlib.Core.List.{map}
-use mathlib.Core.Path.{ap, _∙_}
-use Prim.Native.Nat.{ℕ, _-_, _≤_}
+use Prim.Native.Nat.{_-_, _≤_}
 use native.Mathlib.Omega.{arith}
 use Rattle.codes.specs.Codes.{code}
 use Rattle.codes.specs.Made.{Made}
-use Rattle.codes.proofs.MadeLaws.{made-none, made-more, made-to, made-next}
-use Rattle.runs.specs.Bytes.{freshByte, anew}
+use Rattle.codes.proofs.MadeLaws.{made-none, made-to}
+use Rattle.runs.specs.Bytes.{anew}
+use Rattle.runs.proofs.FreshLaws.{anew-more}
 use Rattle.runs.proofs.inner.edges.edge_run.Statement.{statement}
 use Rattle.runs.proofs.inner.edges.edge_run.Tie as tie
 
@@ -35,11 +35,7 @@ loop-less : tie.Need-loop-less Inv-loop μ-loop
 loop-less c = omega arith
 
 loop-again : tie.Need-loop-again Inv-loop μ-loop
-loop-again c =
-    let l = c .before .before .before .loop in
-    let a = c .before .before .before .before .before .before .args in
-    let e = c .fresh-byte .ensures ∙ ap (λ (x : ℕ). freshByte (a .w) x (a .at) (map (code (a .w)) (a .letters .now)) (a .stop) (l .j)) (made-next (l .inv .2)) in
-    (omega arith, omega arith, made-more (l .inv .2) (omega arith) (omega arith) e)
+loop-again c = let l = c .before .before .before .loop in (omega arith, omega arith, anew-more _ _ _ _ (l .inv .2) (omega arith) (omega arith) (c .fresh-byte .ensures))
 
 same-length : tie.Need-same-length Inv-loop μ-loop
 same-length c = c .before .loop .inv .2 .long

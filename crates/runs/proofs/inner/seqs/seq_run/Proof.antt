@@ -7,8 +7,9 @@ use lib.ListN.{length}
 use Rattle.codes.proofs.WidthLaws.{up-whole}
 use Rattle.codes.specs.Codes.{per, up}
 use Rattle.codes.specs.Made.{Made}
-use Rattle.codes.proofs.MadeLaws.{made-none, made-more, made-to, made-next}
-use Rattle.runs.specs.Bytes.{freshByte, anew, placedChars, placedStop}
+use Rattle.codes.proofs.MadeLaws.{made-none, made-to}
+use Rattle.runs.specs.Bytes.{anew, placedChars, placedStop}
+use Rattle.runs.proofs.FreshLaws.{anew-more}
 use Rattle.runs.proofs.RoomLaws.{div-up}
 use Rattle.runs.proofs.SeqLaws.{lined-up}
 use Rattle.runs.proofs.inner.seqs.seq_run.Statement.{statement}
@@ -89,12 +90,8 @@ loop-less c = omega arith
 
 loop-again : tie.Need-loop-again Inv-loop μ-loop
 loop-again c =
-    let q = c .before .before .before .before .before in
-    let l = c .before .before .before .before .loop in
-    let a = s q .args in
-    let p = a .p in
-    let e = c .seq-byte .ensures ∙ ap (λ (x : ℕ). freshByte (a .w) x (p .len) (placedChars (a .w) p (a .view .now)) (placedStop (a .w) p) (l .j)) (made-next (l .inv .2)) in
-    (omega arith, omega arith, made-more (l .inv .2) (omega arith) (omega (arith, s q .pre .1 .1)) e)
+    let l = c .before .before .before .before in
+    (omega arith, omega arith, anew-more _ _ _ _ (l .loop .inv .2) (omega arith) (omega (arith, s (l .before) .pre .1 .1)) (c .seq-byte .ensures))
 
 same-length : tie.Need-same-length Inv-loop μ-loop
 same-length c = c .before .loop .inv .2 .long

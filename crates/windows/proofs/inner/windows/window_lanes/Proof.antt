@@ -6,7 +6,7 @@ use native.Mathlib.Omega.{arith}
 use lib.Dec.{lit<}
 use Rattle.codes.specs.Codes.{chars, tab}
 use Rattle.codes.specs.Made.{Made}
-use Rattle.codes.proofs.MadeLaws.{made-none, made-join, made-to, made-is}
+use Rattle.codes.proofs.MadeLaws.{made-none, made-on, made-to, made-is}
 use Rattle.codes.proofs.WidthLaws.{width-1}
 use Rattle.windows.specs.Marks.{untilAt}
 use Rattle.windows.specs.Windows.{windowEntry, windowsFilled}
@@ -73,7 +73,7 @@ loop-again c =
     let o = l k .loop in
     let a = s k .args in
     let p = c .before .before .write-windows .ensures (chars 1 (a .bytes .now) (a .offset) (a .len)) (a .n) (k .before .lane-words .ensures) (o .inv .1) in
-    (omega (arith, count-right k), p .0, made-join (o .inv .2) (p .1) (omega arith) (omega arith) (λ j h l q. refl))
+    (omega (arith, count-right k), p .0, made-on (o .inv .2) (p .1) (omega arith) (omega arith))
 
 same-length : tie.Need-same-length Inv-loop μ-loop
 same-length c = c .before .loop .inv .2 .long

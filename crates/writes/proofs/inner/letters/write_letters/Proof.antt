@@ -1,7 +1,6 @@
 -- Three runs, one behind the other. Assumes nothing.
-use mathlib.Core.Path.{refl}
 use native.Mathlib.Omega.{arith}
-use Rattle.codes.proofs.MadeLaws.{made-join}
+use Rattle.codes.proofs.MadeLaws.{made-on}
 use borrow.Author.Needs.{needs}
 use Rattle.writes.proofs.inner.letters.write_letters.Statement.{statement}
 use Rattle.writes.proofs.inner.letters.write_letters.Tie as tie
@@ -49,7 +48,7 @@ returns-2 : tie.Need-returns-2
 returns-2 c =
     let w = c .before .before .before .before .before .before in
     let front = w .before .before .before .before .write-some2 .ensures in
-    made-join (made-join front (w .write-whole .ensures) (omega arith) (omega arith) (λ j h l q. refl)) (c .before .before .write-some3 .ensures) (omega arith) (omega arith) (λ j h l q. refl)
+    made-on (made-on front (w .write-whole .ensures) (omega arith) (omega arith)) (c .before .before .write-some3 .ensures) (omega arith) (omega arith)
 
 pub write-letters-spec : {M : Type 1} → statement M
 write-letters-spec =
