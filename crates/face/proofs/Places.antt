@@ -7,7 +7,7 @@ use mathlib.Core.Path.{_≡_, refl, sym, ap, _∙_}
 use Prim.Native.Nat.{ℕ, _+_, _-_, _/_, _%_}
 use lib.ListN.{length, take, drop, take-append-drop}
 use lib.Seq.{take-length, take-append-seam}
-use Rattle.codes.specs.Codes.{per, up, pick}
+use Rattle.codes.specs.Codes.{per, up, trailing, pick}
 use Rattle.codes.specs.Refusals.{Answer, answer, first, ifDone}
 use Rattle.codes.specs.declared.refusals.Outcome.{Outcome}
 use Rattle.codes.specs.declared.refusals.Outcome.the-variants.{Done, Refused}
@@ -44,7 +44,7 @@ module _ (w : ℕ) (bs : List ℕ) (o len : ℕ) where
       at-part (first (sliceTests w (length bs) o len start end)) bs (0, length bs, o + start, end - start) bs (take-length bs)
 
   part-place : bytesAt bs (partOf w bs o len) ≡ normalPart w bs o len
-  part-place = take-within (up w (o + len) + 48 - o / per w) (drop (o / per w) bs)
+  part-place = take-within (up w (o + len) + trailing - o / per w) (drop (o / per w) bs)
 
   pub normalised-place : lentAt bs (normalisedPart w bs o len) ≡ normalised w bs o len
   unfolding normalisedPart normalised

@@ -7,7 +7,7 @@ use native.Mathlib.Omega.{arith}
 use borrow.Author.Tests.{ltb-true, ltb-false, lt-ltb, le-ltb}
 use lib.Dec.{ltb}
 use lib.ListN.{length, length-append}
-use Rattle.codes.specs.Codes.{IsWidth, up, chars, code}
+use Rattle.codes.specs.Codes.{IsWidth, up, trailing, chars, code}
 use Rattle.codes.specs.Refusals.{ifDone}
 use Rattle.codes.specs.declared.refusals.Outcome.the-variants.{Done}
 use Rattle.codes.proofs.CharLaws.{length-pack}
@@ -64,14 +64,14 @@ unfolding chars
 holds-none i bases flags = record { number = refl; long = refl; short = λ l. record { count = refl; bases = refl; flags = refl } }
 
 -- a track of a record that gets more letters, where there is room
-module _ {w : ℕ} (W : IsWidth w) (bytes letters : List ℕ) (count : ℕ) (small : length bytes ≤ 2 ^ 28) (room : up w (count + length letters) + 48 ≤ length bytes) where
+module _ {w : ℕ} (W : IsWidth w) (bytes letters : List ℕ) (count : ℕ) (small : length bytes ≤ 2 ^ 28) (room : up w (count + length letters) + trailing ≤ length bytes) where
   pushed : outcome w (length bytes) count (pushAscii letters) ≡ Done
   unfolding outcome
   pushed =
       rw (
         le-ltb (2 ^ 28) (length bytes) small,
-        le-ltb (length bytes) (up w count + 48) (omega (arith, up-mono W count (count + length letters) (omega arith))),
-        le-ltb (length bytes) (up w (count + length letters) + 48) room,
+        le-ltb (length bytes) (up w count + trailing) (omega (arith, up-mono W count (count + length letters) (omega arith))),
+        le-ltb (length bytes) (up w (count + length letters) + trailing) room,
       )
 
   track-more : (ls : List ℕ) → count ≡ length ls → chars w bytes 0 (length ls) ≡ map (code w) ls

@@ -5,7 +5,7 @@ use mathlib.Core.Path.{_≡_, sym, _∙_}
 use Prim.Native.Nat.{ℕ, _+_, _*_, _^_}
 use lib.Dec.{ltb}
 use lib.ListN.{length, drop}
-use Rattle.codes.specs.Codes.{per, chars}
+use Rattle.codes.specs.Codes.{per, chars, trailing}
 use Rattle.codes.specs.Refusals.{answer, first, ifDone, noRoom}
 use Rattle.codes.specs.declared.refusals.Outcome.the-variants.{Done}
 use Rattle.codes.proofs.CharLaws.{same-length}
@@ -24,9 +24,9 @@ judged : {xs : List ℕ} {ao al : ℕ} {ys : List ℕ} {bo bl : ℕ} (out : List
 unfolding writeOutcome
 judged {xs} {ao} {al} {ys} {bo} {bl} out t =
     let p = passed (ltb (2 ^ 28) (length xs)) _ _ (t .bases) in
-    let q = passed (ltb (length xs * per 2) (ao + al + 48 * per 2)) _ _ (p .1) in
+    let q = passed (ltb (length xs * per 2) (ao + al + trailing * per 2)) _ _ (p .1) in
     let r = passed (ltb (2 ^ 28) (length ys)) _ _ (t .flags) in
-    let s = passed (ltb (length ys * per 1) (bo + bl + 48 * per 1)) _ _ (r .1) in
+    let s = passed (ltb (length ys * per 1) (bo + bl + trailing * per 1)) _ _ (r .1) in
     simp (p .0, q .0, r .0, s .0)
 
 module _ (xs : List ℕ) (ao al : ℕ) (ys : List ℕ) (bo bl : ℕ) (us : List ℕ) (co cl : ℕ) (vs : List ℕ) (eo el : ℕ) (one : Tracks xs ao al ys bo bl) (two : Tracks us co cl vs eo el)

@@ -8,7 +8,7 @@ use native.Mathlib.Omega.{arith}
 use borrow.Author.Tests.{le-ltb}
 use lib.IntN.{pos}
 use lib.ListN.{length, getD, length-map, length-reverse, List·getD-append}
-use Rattle.codes.specs.Codes.{IsWidth, per, up, charAt, chars, complement}
+use Rattle.codes.specs.Codes.{IsWidth, per, up, trailing, charAt, chars, complement}
 use Rattle.codes.specs.Refusals.{answer, ifDone}
 use Rattle.codes.specs.Words.{packed}
 use Rattle.codes.specs.declared.refusals.Outcome.{Outcome}
@@ -48,7 +48,7 @@ module _ (bs other : List ℕ) (n : ℕ) (h : n ≤ 16384) (lb : length bs ≡ 4
   flip-done : flipOutcome 2 bs 0 n other ≡ Done
   unfolding flipOutcome
   flip-done =
-      rw (le-ltb (2 ^ 28) (length bs) (omega arith), le-ltb (length bs * 4) (0 + n + 48 * 4) (omega arith), le-ltb (length other) (up 2 n + 48) (omega arith))
+      rw (le-ltb (2 ^ 28) (length bs) (omega arith), le-ltb (length bs * 4) (0 + n + trailing * 4) (omega arith), le-ltb (length other) (up 2 n + trailing) (omega arith))
 
   packed-long : length (packed 2 (flipped 2 cs)) ≡ up 2 n
   unfolding packed
@@ -66,8 +66,8 @@ module _ (bs other : List ℕ) (n : ℕ) (h : n ≤ 16384) (lb : length bs ≡ 4
       rw (
         le-ltb (2 ^ 28) (length bs) (omega arith),
         le-ltb (2 ^ 28) (length other′) (omega arith),
-        le-ltb (length bs * 4) (0 + n + 48 * 4) (omega arith),
-        le-ltb (length other′ * 4) (0 + n + 48 * 4) (omega arith),
+        le-ltb (length bs * 4) (0 + n + trailing * 4) (omega arith),
+        le-ltb (length other′ * 4) (0 + n + trailing * 4) (omega arith),
       )
 
   -- z is the offset, m the length

@@ -4,7 +4,7 @@ use mathlib.Core.List.{List, _++_}
 use Prim.Native.Nat.{ℕ, _+_, _-_, _*_, _%_}
 use lib.Dec.{ltb, eqb}
 use lib.ListN.{length, getD, replicate}
-use Rattle.codes.specs.Codes.{per, chars, up, pick, charAt}
+use Rattle.codes.specs.Codes.{per, chars, up, trailing, pick, charAt}
 use Rattle.codes.specs.Words.{pack}
 
 -- the next multiple of C8 at or above the length, plus the view's in-byte offset
@@ -30,7 +30,7 @@ spliced w bs at cs stop = pack w (length bs) (splice (charAt w bs) at cs stop)
 -- the buffer with the characters below `at`, then cs, then zeros to the end of the 48th byte behind
 unfoldable pub written : ℕ → List ℕ → ℕ → List ℕ → List ℕ
 unfolding splice
-written w bs at cs = spliced w bs at cs ((up w (at + length cs) + 48) * per w)
+written w bs at cs = spliced w bs at cs ((up w (at + length cs) + trailing) * per w)
 
 -- the buffer with the characters of cs at `at`, and every other bit as it was
 unfoldable pub overwritten : ℕ → List ℕ → ℕ → List ℕ → List ℕ

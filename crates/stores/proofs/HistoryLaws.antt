@@ -8,7 +8,7 @@ use native.Mathlib.Omega.{arith}
 use borrow.Author.Tests.{le-ltb, ltb-false}
 use lib.ListN.{length, length-map}
 use lib.Pow.{pow-pos}
-use Rattle.codes.specs.Codes.{IsWidth, up, code}
+use Rattle.codes.specs.Codes.{IsWidth, up, trailing, code}
 use Rattle.codes.specs.Refusals.{ifDone}
 use Rattle.codes.specs.declared.refusals.Outcome.the-variants.{Done, Refused}
 use Rattle.codes.specs.declared.refusals.Refusal.{Refusal}
@@ -22,9 +22,9 @@ use Rattle.stores.proofs.HoldLaws.{Holds, Good, good-still, good-from, 
 use Rattle.runs.proofs.SeqLaws.{seq-lt, seq-end}
 use Rattle.runs.proofs.SpliceLaws.{codes-lt}
 
-pub clear-done : (w m len : ℕ) → m ≤ 2 ^ 28 → 48 ≤ m → Done ≡ outcome w m len clear
+pub clear-done : (w m len : ℕ) → m ≤ 2 ^ 28 → trailing ≤ m → Done ≡ outcome w m len clear
 unfolding outcome
-clear-done w m len hi lo = rw (le-ltb (2 ^ 28) m hi, le-ltb m 48 lo)
+clear-done w m len hi lo = rw (le-ltb (2 ^ 28) m hi, le-ltb m trailing lo)
 
 module _ {w : ℕ} (W : IsWidth w) where
   -- the length that a call which is done answers
@@ -49,16 +49,16 @@ module _ {w : ℕ} (W : IsWidth w) where
     deed-good (pushAscii []) p = good-still W bs h H
     deed-good (pushAscii (l ∷ ls)) p =
         good-from W bs h H len (map (code w) (l ∷ ls)) (codes-lt W (l ∷ ls)) (le-refl len)
-        (subst (λ (x : ℕ). up w (len + x) + 48 ≤ m) (sym (length-map (l ∷ ls) (code w))) (ltb-false _ _ (p .1 .1 .0)))
+        (subst (λ (x : ℕ). up w (len + x) + trailing ≤ m) (sym (length-map (l ∷ ls) (code w))) (ltb-false _ _ (p .1 .1 .0)))
     deed-good (pushSeq vs o n) p =
         good-from W bs h H len (seqChars w len vs o n) (seq-lt W len vs o n) (le-refl len)
-        (subst (λ (x : ℕ). up w x + 48 ≤ m) (sym (seq-end W len vs o n)) (ltb-false _ _ (p .1 .1 .1 .1 .0)))
+        (subst (λ (x : ℕ). up w x + trailing ≤ m) (sym (seq-end W len vs o n)) (ltb-false _ _ (p .1 .1 .1 .1 .0)))
     deed-good (overwrite at ls) p =
         good-over W bs h H at (map (code w) ls) (codes-lt W ls)
         (subst (λ (x : ℕ). at + x ≤ len) (sym (length-map ls (code w))) (ltb-false _ _ (p .1 .1 .0)))
     deed-good (cut n) p =
         let r : n ≤ len = ltb-false _ _ (p .1 .1 .0) in
-        good-from W bs h H n [] (λ i. pow-pos w) r (le-trans (add-le-add (up-mono W (n + 0) len (omega arith)) (le-refl 48)) (H .room))
+        good-from W bs h H n [] (λ i. pow-pos w) r (le-trans (add-le-add (up-mono W (n + 0) len (omega arith)) (le-refl trailing)) (H .room))
 
     pub step-good : (c : Call) → Good w bs h (edit w m len c)
     unfolding outcome
@@ -106,7 +106,7 @@ module _ {w : ℕ} (W : IsWidth w) where
   unfolding outcome after answered written
   clear-kept bs old e =
       let p : Passed (tests w (length bs) 0 clear) = done-passed (tests w (length bs) 0 clear) (sym e) in
-      let lo : 48 ≤ length bs = ltb-false _ _ (p .1 .0) in
+      let lo : trailing ≤ length bs = ltb-false _ _ (p .1 .0) in
       let d : List ℕ = written w bs 0 [] in
       let start : step w (record { bytes = bs; len = old }) clear ≡ record { bytes = d; len = 0 } = rw e in
       subst (λ (s : Store). Kept s [] (length bs)) (sym start)

@@ -8,7 +8,7 @@ use Prim.Native.Nat.{ℕ, _+_, _*_, _/_, _≤_, _<_, zero-le}
 use native.Mathlib.Nat.{add-zero, le-of-eq, mul-le-mul-right}
 use native.Mathlib.Omega.{arith}
 use lib.ListN.{length, getD, length-map, List·getD-eq-default}
-use Rattle.codes.specs.Codes.{IsWidth, per, up, charAt, code}
+use Rattle.codes.specs.Codes.{IsWidth, per, up, trailing, charAt, code}
 use Rattle.codes.specs.Refusals.{ifDone}
 use Rattle.codes.specs.Words.{pack}
 use Rattle.codes.specs.declared.refusals.Outcome.the-variants.{Done}
@@ -38,9 +38,9 @@ module _ {w : ℕ} (W : IsWidth w) (bs : List ℕ) (bytes : (b : ℕ) → getD b
       List·getD-eq-default (pack w (length bs) (splice (charAt w bs) at cs stop)) 0 {n = j} (omega (arith, length-pack w (length bs) (splice (charAt w bs) at cs stop)))
       ∙ sym (List·getD-eq-default bs 0 {n = j} l))
 
-  from-out : (at : ℕ) (cs : List ℕ) (e j : ℕ) → at + length cs ≡ e → (at / per w ≤ j → j < up w e + 48 → ⊥) → getD (Runs.written w bs at cs) j 0 ≡ getD bs j 0
+  from-out : (at : ℕ) (cs : List ℕ) (e j : ℕ) → at + length cs ≡ e → (at / per w ≤ j → j < up w e + trailing → ⊥) → getD (Runs.written w bs at cs) j 0 ≡ getD bs j 0
   unfolding Runs.written
-  from-out at cs e j q h = spliced-out at cs ((up w (at + length cs) + 48) * per w) (up w e + 48) j (le-of-eq (ap (λ (x : ℕ). (up w x + 48) * per w) q)) h
+  from-out at cs e j q h = spliced-out at cs ((up w (at + length cs) + trailing) * per w) (up w e + trailing) j (le-of-eq (ap (λ (x : ℕ). (up w x + trailing) * per w) q)) h
 
   over-out : (at : ℕ) (cs : List ℕ) (e j : ℕ) → at + length cs ≡ e → (at / per w ≤ j → j < up w e → ⊥) → getD (overwritten w bs at cs) j 0 ≡ getD bs j 0
   unfolding overwritten

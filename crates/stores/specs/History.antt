@@ -4,7 +4,7 @@ use mathlib.Core.List.{List, [], _∷_, _++_}
 use mathlib.Core.Path.{_≡_}
 use Prim.Native.Nat.{ℕ, _+_}
 use lib.ListN.{length, take, drop, replicate}
-use Rattle.codes.specs.Codes.{up, chars}
+use Rattle.codes.specs.Codes.{up, trailing, chars}
 use Rattle.codes.specs.Words.{packed}
 use Rattle.stores.specs.Stores.{Call, Edit, still, from, over, edit, answered, after}
 
@@ -36,7 +36,7 @@ history w m h (c ∷ cs) = history w m (charsAfter h (edit w m (length h) c)) cs
 pub record Packed (w m : ℕ) (s : Store) (h : List ℕ) : Type 0 where
   pub length-is : s .len ≡ length h
   pub bytes-are : take (up w (length h)) (s .bytes) ≡ packed w h
-  pub zeros-behind : take 48 (drop (up w (length h)) (s .bytes)) ≡ replicate 48 0
+  pub zeros-behind : take trailing (drop (up w (length h)) (s .bytes)) ≡ replicate trailing 0
   pub chars-are : chars w (s .bytes) 0 (s .len) ≡ h
   pub size-kept : length (s .bytes) ≡ m
 

@@ -10,7 +10,7 @@ use native.Mathlib.Nat.{le-trans, le-min, min-le-left}
 use native.Mathlib.Omega.{arith}
 use borrow.Author.Tests.{le-ltb}
 use lib.ListN.{length, getD, replicate, drop, List·getD-append}
-use Rattle.codes.specs.Codes.{pick, tab, chars}
+use Rattle.codes.specs.Codes.{pick, tab, chars, trailing}
 use Rattle.codes.specs.Refusals.{answer, first, ifDone}
 use Rattle.codes.specs.Windows.{window}
 use Rattle.codes.specs.declared.refusals.Outcome.{Outcome}
@@ -134,7 +134,7 @@ module _ (bs : List ℕ) (old : ℕ) (e : outcome 1 (length bs) 0 clear ≡ Done
   track-accepted =
       let K = history-kept width-1 bs old e cs in
       let n : s .len ≡ length h = K .lengths in
-      let fits : 0 + s .len + 48 * 8 ≤ length (s .bytes) * 8 = omega (arith, n, K .holds .room, up-hi width-1 (length h)) in
+      let fits : 0 + s .len + trailing * 8 ≤ length (s .bytes) * 8 = omega (arith, n, K .holds .room, up-hi width-1 (length h)) in
       rw (le-ltb _ _ (K .holds .small), le-ltb _ _ fits)
 
   are : chars 1 (s .bytes) 0 (s .len) ≡ h

@@ -8,7 +8,7 @@ use native.Mathlib.Omega.{arith}
 use lib.ListN.{length, take, drop, length-append, length-drop, replicate, length-reverse, length-map}
 use lib.Pow.{low, shr-shr}
 use lib.Seq.{sets, drop-append-add, drop-drop, take-append-le}
-use Rattle.codes.specs.Codes.{IsWidth, per, up, complement, chars}
+use Rattle.codes.specs.Codes.{IsWidth, per, up, trailing, complement, chars}
 use Rattle.codes.specs.Made.{Made}
 use Rattle.codes.specs.Words.{word, charsOf, flip, packed}
 use Rattle.codes.proofs.CharLaws.{length-chars, chars-fit}
@@ -105,12 +105,12 @@ flip-turn {w} W v bits at old out x e l m ex eo =
         ∙ ap₂ (λ (n k : ℕ). flip w (complement w) n v / 2 ^ k) (rest-whole W bits at e l) (sym (mul-assoc w (per w) at) ∙ ap (λ (y : ℕ). y * at) (W .whole))
 
 -- the reversed view's bytes, zeros behind, and the rest of the buffer
-pub flipped-written : {w : ℕ} → IsWidth w → (s : List ℕ) → Below 8 s → (o len used m : ℕ) (old mid new : List ℕ) → used ≡ up w len → used ≤ m → m ≤ used + 48 → used + 48 ≤ length old
-    → mid ≡ charsOf 8 m (flip w (complement w) len (word 8 s / 2 ^ (w * o))) ++ drop m old → Made (λ j. 0) used (used + 48) mid new → new ≡ flippedOver w s o len old
+pub flipped-written : {w : ℕ} → IsWidth w → (s : List ℕ) → Below 8 s → (o len used m : ℕ) (old mid new : List ℕ) → used ≡ up w len → used ≤ m → m ≤ used + trailing → used + trailing ≤ length old
+    → mid ≡ charsOf 8 m (flip w (complement w) len (word 8 s / 2 ^ (w * o))) ++ drop m old → Made (λ j. 0) used (used + trailing) mid new → new ≡ flippedOver w s o len old
 unfolding flippedOver
 flipped-written {w} W s b o len used m old mid new eu lo hi room em z =
-    made-zeros used 48 z (subst (λ (n : ℕ). used + 48 ≤ n) (sym size) room)
-    ∙ ap₂ (λ (p q : List ℕ). p ++ (replicate 48 0 ++ q)) front back
+    made-zeros used trailing z (subst (λ (n : ℕ). used + trailing ≤ n) (sym size) room)
+    ∙ ap₂ (λ (p q : List ℕ). p ++ (replicate trailing 0 ++ q)) front back
   where
     cs : List ℕ
     cs = flipped w (chars w s o len)
@@ -134,10 +134,10 @@ flipped-written {w} W s b o len used m old mid new eu lo hi room em z =
         ∙ ap₂ (charsOf 8) (eu ∙ ap (up w) (sym long)) (flip-field W s b (complement w) o len)
         ∙ sym (packed-is W cs (Below-reverse w (map (complement w) (chars w s o len)) (Below-through w (complement w) (complement-fits w) (chars w s o len) (chars-fit w s o len))))
 
-    back : drop (used + 48) mid ≡ drop (up w len + 48) old
+    back : drop (used + trailing) mid ≡ drop (up w len + trailing) old
     back =
-        ap (drop (used + 48)) em
-        ∙ ap (λ (n : ℕ). drop n (charsOf 8 m t ++ drop m old)) (sym (ap (λ (n : ℕ). n + (used + 48 - m)) lm ∙ add-sub-of-le hi))
-        ∙ drop-append-add (charsOf 8 m t) (drop m old) (used + 48 - m)
-        ∙ drop-drop (used + 48 - m) m old
-        ∙ ap (λ (n : ℕ). drop n old) (add-sub-of-le hi ∙ ap (λ (n : ℕ). n + 48) eu)
+        ap (drop (used + trailing)) em
+        ∙ ap (λ (n : ℕ). drop n (charsOf 8 m t ++ drop m old)) (sym (ap (λ (n : ℕ). n + (used + trailing - m)) lm ∙ add-sub-of-le hi))
+        ∙ drop-append-add (charsOf 8 m t) (drop m old) (used + trailing - m)
+        ∙ drop-drop (used + trailing - m) m old
+        ∙ ap (λ (n : ℕ). drop n old) (add-sub-of-le hi ∙ ap (λ (n : ℕ). n + trailing) eu)

@@ -12,7 +12,7 @@ ghost use Rattle.codes.specs.Refusals.{first, ifDone, badWord, noRoom};
 ghost use Rattle.codes.specs.Words.{word, charsOf};
 
 // The word of at most 32 letters.
-pub fn pack(letters: &[u8]) -> u64
+pub(crate) fn pack(letters: &[u8]) -> u64
     requires { ⌜ length (now letters) ≤ 32 ⌝ }
     ensures { λ r. ⌜ r ≡ word 2 (map lossy (now (letters .entry))) ⌝ }
 {
@@ -35,7 +35,7 @@ pub fn low_letter(x: u8) -> u8
 }
 
 // Writes the k low bases of x as letters.
-pub fn unpack(x: u64, k: usize, out: &mut [u8])
+pub(crate) fn unpack(x: u64, k: usize, out: &mut [u8])
     requires { ⌜ (k ≤ 32) × (k ≤ length (now out)) ⌝ }
     ensures { λ _. ⌜ now (out .exit) ≡ map letter (charsOf 2 k x) ++ drop k (now (out .entry)) ⌝ }
 {
@@ -50,7 +50,7 @@ pub fn unpack(x: u64, k: usize, out: &mut [u8])
 }
 
 // Writes the k low bases of a word of two halves.
-pub fn unpack_pair(low: u64, high: u64, k: usize, out: &mut [u8])
+pub(crate) fn unpack_pair(low: u64, high: u64, k: usize, out: &mut [u8])
     requires { ⌜ (k ≤ 64) × (k ≤ length (now out)) ⌝ }
     ensures { λ _. ⌜ now (out .exit) ≡ map letter (charsOf 2 k (high * 2 ^ 64 + low)) ++ drop k (now (out .entry)) ⌝ }
 {
@@ -63,7 +63,7 @@ pub fn unpack_pair(low: u64, high: u64, k: usize, out: &mut [u8])
 }
 
 // Writes the k low bases of a word of two halves, where k is at most `most` and the buffer has room.
-pub fn unpack_up_to(low: u64, high: u64, k: Chars, most: usize, out: &mut [u8]) -> Outcome
+pub(crate) fn unpack_up_to(low: u64, high: u64, k: Chars, most: usize, out: &mut [u8]) -> Outcome
     requires { ⌜ most ≤ 64 ⌝ }
     ensures outcome { λ r. ⌜ r ≡ first (badWord 0 most (k .0) ∷ noRoom (length (now (out .entry))) (k .0) ∷ []) ⌝ }
     ensures bytes { λ r. ⌜ now (out .exit) ≡

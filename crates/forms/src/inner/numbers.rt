@@ -34,7 +34,7 @@ pub fn spelt_size(n: u64) -> usize
 }
 
 // Writes n.
-pub fn spell(n: u64, out: &mut [u8])
+pub(crate) fn spell(n: u64, out: &mut [u8])
     requires { ⌜ (n < 2 ^ 35) × (length (spelt 5 n) ≤ length (now out)) ⌝ }
     ensures { λ _. ⌜ now (out .exit) ≡ spelt 5 n ++ drop (length (spelt 5 n)) (now (out .entry)) ⌝ }
 {
@@ -72,7 +72,7 @@ fn lead(byte: u8, rest: Spelled) -> Spelled
 }
 
 // The number that the bytes begin with: from the fifth byte back to the first, each leads what stands behind it.
-pub fn read_number(bytes: &[u8]) -> Spelled
+pub(crate) fn read_number(bytes: &[u8]) -> Spelled
     ensures { λ r. ⌜ spelledSays r ≡ spelling 5 (now (bytes .entry)) ⌝ }
 {
     let mut read = Spelled::Bad;

@@ -91,7 +91,7 @@ fn judge(form: &[u8], base_room: usize, flag_room: usize) -> Checked
 }
 
 // Whether a form can be read into buffers of so many bytes.
-pub fn check(form: &[u8], base_room: usize, flag_room: usize) -> Checked
+pub(crate) fn check(form: &[u8], base_room: usize, flag_room: usize) -> Checked
     ensures { λ r. ⌜ checkedSays r ≡
         answer (first (readTests (now (form .entry)) «base_room» «flag_room»))
         (formLength (now (form .entry)), bodyOf (headOf (now (form .entry)))) (0, 0) ⌝ }

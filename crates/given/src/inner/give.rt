@@ -25,7 +25,7 @@ ghost use Rattle.order.specs.Order.{orderNumber};
 ghost use Rattle.stores.specs.Answers.{pushedSays, keptSays};
 ghost use Rattle.streams.specs.Answers.{shapeSays, filledSays};
 
-pub fn refusal_no(refusal: Refusal) -> u32
+pub(crate) fn refusal_no(refusal: Refusal) -> u32
     ensures { λ r. ⌜ r ≡ number refusal ⌝ }
 {
     refusal.number() as u32
@@ -37,7 +37,7 @@ pub fn no(outcome: Outcome) -> u32
     outcome.number() as u32
 }
 
-pub fn order_no(order: Order) -> i32
+pub(crate) fn order_no(order: Order) -> i32
     ensures { λ r. ⌜ r ≡ orderNumber order ⌝ }
 {
     match order {

@@ -67,7 +67,7 @@ fn write_step(w: usize, words: [u64; 8], s: usize, out: &mut [u32], e: usize)
 }
 
 // Writes the first `count` characters of eight words from entry e on, a step at a time.
-pub fn write_turn(w: usize, words: [u64; 8], count: usize, out: &mut [u32], e: usize)
+pub(crate) fn write_turn(w: usize, words: [u64; 8], count: usize, out: &mut [u32], e: usize)
     requires { ⌜ IsWidth w ⌝ }
     requires { ⌜ (w * count ≤ 64) × (e + 8 * count ≤ length (now out)) ⌝ }
     ensures { λ _. ⌜ Made (turned w words e) e (e + 8 * count) (now (out .entry)) (now (out .exit)) ⌝ }

@@ -39,7 +39,7 @@ fn lcp_words(w: usize, a: &[u8], ao: usize, al: usize, b: &[u8], bo: usize, bl: 
 }
 
 // The count of equal leading characters of two views.
-pub fn lcp(w: usize, a: &[u8], ao: Chars, al: Chars, b: &[u8], bo: Chars, bl: Chars) -> usize
+pub(crate) fn lcp(w: usize, a: &[u8], ao: Chars, al: Chars, b: &[u8], bo: Chars, bl: Chars) -> usize
     requires { ⌜ IsWidth w ⌝ }
     requires { ⌜ pairOutcome w (now a) (ao .0) (al .0) (now b) (bo .0) (bl .0) ≡ Done ⌝ }
     ensures { λ r. ⌜ r ≡ common (chars w (now (a .entry)) (ao .0) (al .0)) (chars w (now (b .entry)) (bo .0) (bl .0)) ⌝ }

@@ -6,9 +6,9 @@ use crate::inner::pairs::pair_outcome;
 use codes::inner::counts::within_byte;
 use codes::refusals::Outcome;
 use codes::units::Chars;
+use fields::inner::parts::Numbers;
 use fields::inner::parts::accepted_part;
 use fields::inner::parts::numbers_of;
-use fields::inner::parts::Numbers;
 ghost use mathlib.Core.Path.{_≡_};
 ghost use Prim.Native.Nat.{_%_};
 ghost use Rattle.codes.specs.Codes.{IsWidth, per, pick};
@@ -36,7 +36,15 @@ fn comes_second(order: Order) -> bool
 }
 
 // Which of the two comes first.
-pub fn choose(w: usize, a: &[u8], ao: Chars, al: Chars, b: &[u8], bo: Chars, bl: Chars) -> Choice
+pub(crate) fn choose(
+    w: usize,
+    a: &[u8],
+    ao: Chars,
+    al: Chars,
+    b: &[u8],
+    bo: Chars,
+    bl: Chars,
+) -> Choice
     requires { ⌜ IsWidth w ⌝ }
     ensures { λ r. ⌜ r ≡ choice w (now (a .entry)) (ao .0) (al .0) (now (b .entry)) (bo .0) (bl .0) ⌝ }
 {
@@ -56,7 +64,14 @@ pub fn choose(w: usize, a: &[u8], ao: Chars, al: Chars, b: &[u8], bo: Chars, bl:
 }
 
 // The numbers of its part.
-pub fn chosen_numbers(w: usize, ao: Chars, al: Chars, bo: Chars, bl: Chars, which: Choice) -> Numbers
+pub(crate) fn chosen_numbers(
+    w: usize,
+    ao: Chars,
+    al: Chars,
+    bo: Chars,
+    bl: Chars,
+    which: Choice,
+) -> Numbers
     requires { ⌜ IsWidth w ⌝ }
     ensures { λ r. ⌜ numbersSay r ≡ answer (which .outcome) (pick (which .second) (bo .0 % per w, bl .0) (ao .0 % per w, al .0)) (0, 0) ⌝ }
 {
@@ -68,7 +83,7 @@ pub fn chosen_numbers(w: usize, ao: Chars, al: Chars, bo: Chars, bl: Chars, whic
 }
 
 // The bytes of its part, and none of the first's beside a refusal.
-pub fn chosen_part<'a>(
+pub(crate) fn chosen_part<'a>(
     w: usize,
     a: &'a [u8],
     ao: Chars,
@@ -95,7 +110,7 @@ pub fn chosen_part<'a>(
 }
 
 // The part itself.
-pub fn least<'a>(
+pub(crate) fn least<'a>(
     w: usize,
     a: &'a [u8],
     ao: Chars,
@@ -112,7 +127,7 @@ pub fn least<'a>(
 }
 
 // The offset and the length in that part.
-pub fn least_numbers(
+pub(crate) fn least_numbers(
     w: usize,
     a: &[u8],
     ao: Chars,

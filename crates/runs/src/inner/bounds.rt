@@ -14,7 +14,7 @@ pub struct Bounds {
 }
 
 // The bounds of a run from character `start` up to character `end`, whose bytes are whole from character `at` on.
-pub fn bounds_of(w: usize, start: usize, at: usize, end: usize) -> Bounds
+pub(crate) fn bounds_of(w: usize, start: usize, at: usize, end: usize) -> Bounds
     requires { ⌜ IsWidth w ⌝ }
     ensures { λ r. ⌜ Bounded w start at end r ⌝ }
 {

@@ -51,7 +51,7 @@ fn fresh_byte(old: u8, w: usize, b: usize, at: usize, letters: &[u8], stop: usiz
 }
 
 // The bytes from byte `from` up to byte `to`.
-pub fn edge_run(
+pub(crate) fn edge_run(
     buffer: &mut [u8],
     w: usize,
     from: usize,

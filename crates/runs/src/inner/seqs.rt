@@ -9,10 +9,11 @@ use codes::inner::tracks::digit;
 use codes::inner::tracks::zero_run;
 use codes::units::Bytes;
 use codes::units::Chars;
+use codes::units::TRAILING;
 ghost use mathlib.Core.Path.{_≡_};
 ghost use Prim.Native.Nat.{ℕ, _+_, _-_, _*_, _^_, _≤_, _<_};
 ghost use lib.ListN.{length, getD};
-ghost use Rattle.codes.specs.Codes.{IsWidth, per, up};
+ghost use Rattle.codes.specs.Codes.{IsWidth, per, up, trailing};
 ghost use Rattle.codes.specs.Made.{Made};
 ghost use Rattle.runs.specs.Bytes.{freshChar, freshByte, anew, Placed, placedChars, placedStop};
 ghost use Rattle.runs.specs.Runs.{seqChars, spliced, written, gapChar};
@@ -136,10 +137,10 @@ fn fill_seq(buffer: &mut [u8], w: usize, p: Place, view: &[u8])
 pub fn write_seq(buffer: &mut [u8], w: usize, p: Place, view: &[u8])
     requires { ⌜ IsWidth w ⌝ }
     requires { ⌜ Placed w (p .len) (p .start) (p .offset) (p .count) (length (now view)) ⌝ }
-    requires { ⌜ (length (now buffer) ≤ 2 ^ 28) × (up w (p .start + p .count) + 48 ≤ length (now buffer)) ⌝ }
+    requires { ⌜ (length (now buffer) ≤ 2 ^ 28) × (up w (p .start + p .count) + trailing ≤ length (now buffer)) ⌝ }
     ensures { λ _. ⌜ now (buffer .exit) ≡ written w (now (buffer .entry)) (p .len) (seqChars w (p .len) (now (view .entry)) (p .offset) (p .count)) ⌝ }
 {
     let last = bytes_for(w, Chars::new(p.start + p.count)).count();
     fill_seq(buffer, w, p, view);
-    zero_run(buffer, last, last + 48);
+    zero_run(buffer, last, last + TRAILING);
 }

@@ -43,7 +43,7 @@ fn flags8(letters: &[u8], i: usize) -> u8
 }
 
 // Bytes of bases from byte `from` up to byte `to`, the letters from letter `first` on.
-pub fn bases_run(buffer: &mut [u8], from: usize, to: usize, letters: &[u8], first: usize)
+pub(crate) fn bases_run(buffer: &mut [u8], from: usize, to: usize, letters: &[u8], first: usize)
     requires { ⌜ (from ≤ to) × (to ≤ length (now buffer)) ⌝ }
     requires { ⌜ first + (to - from) * 4 ≤ length (now letters) ⌝ }
     ensures { λ _. ⌜ Made (λ j. lettersWord 2 4 (now (letters .entry)) (first + (j - from) * 4)) from to (now (buffer .entry)) (now (buffer .exit)) ⌝ }
@@ -58,7 +58,7 @@ pub fn bases_run(buffer: &mut [u8], from: usize, to: usize, letters: &[u8], firs
 }
 
 // Bytes of flags from byte `from` up to byte `to`, the letters from letter `first` on.
-pub fn flags_run(buffer: &mut [u8], from: usize, to: usize, letters: &[u8], first: usize)
+pub(crate) fn flags_run(buffer: &mut [u8], from: usize, to: usize, letters: &[u8], first: usize)
     requires { ⌜ (from ≤ to) × (to ≤ length (now buffer)) ⌝ }
     requires { ⌜ first + (to - from) * 8 ≤ length (now letters) ⌝ }
     ensures { λ _. ⌜ Made (λ j. lettersWord 1 8 (now (letters .entry)) (first + (j - from) * 8)) from to (now (buffer .entry)) (now (buffer .exit)) ⌝ }

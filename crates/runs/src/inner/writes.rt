@@ -7,11 +7,12 @@ use codes::inner::counts::bytes_for;
 use codes::inner::counts::chars_in;
 use codes::inner::tracks::zero_run;
 use codes::units::Chars;
+use codes::units::TRAILING;
 ghost use mathlib.Core.List.{map};
 ghost use mathlib.Core.Path.{_≡_};
 ghost use Prim.Native.Nat.{_+_, _*_, _^_, _≤_};
 ghost use lib.ListN.{length};
-ghost use Rattle.codes.specs.Codes.{IsWidth, per, up, code};
+ghost use Rattle.codes.specs.Codes.{IsWidth, per, up, trailing, code};
 ghost use Rattle.codes.specs.Made.{Made};
 ghost use Rattle.runs.specs.Bytes.{anew};
 ghost use Rattle.runs.specs.Runs.{spliced, written};
@@ -63,7 +64,7 @@ pub fn fill_letters(buffer: &mut [u8], w: usize, at: usize, letters: &[u8], stop
 pub fn write_letters(buffer: &mut [u8], w: usize, at: usize, letters: &[u8])
     requires { ⌜ IsWidth w ⌝ }
     requires { ⌜ length (now buffer) ≤ 2 ^ 28 ⌝ }
-    requires { ⌜ up w (at + length (now letters)) + 48 ≤ length (now buffer) ⌝ }
+    requires { ⌜ up w (at + length (now letters)) + trailing ≤ length (now buffer) ⌝ }
     ensures { λ _. ⌜ now (buffer .exit) ≡ written w (now (buffer .entry)) at (map (code w) (now (letters .entry))) ⌝ }
 {
     let end = at + letters.len();
@@ -71,5 +72,5 @@ pub fn write_letters(buffer: &mut [u8], w: usize, at: usize, letters: &[u8])
     let last = used.count();
     let stop = chars_in(w, used).count();
     fill_letters(buffer, w, at, letters, stop);
-    zero_run(buffer, last, last + 48);
+    zero_run(buffer, last, last + TRAILING);
 }

@@ -58,7 +58,7 @@ fn write_from(marks: [usize; 8], j: usize, skip: usize, out: &mut [u32])
 }
 
 // Marks and writes `count` steps from step j on, whose flags are the low bits of eight words.
-pub fn write_windows(
+pub(crate) fn write_windows(
     words: [u64; 8],
     count: usize,
     j: usize,

@@ -107,7 +107,7 @@ fn window_one(
     );
 }
 
-pub fn fill_windows(
+pub(crate) fn fill_windows(
     bytes: &[u8],
     offset: Chars,
     len: Chars,

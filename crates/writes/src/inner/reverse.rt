@@ -6,13 +6,14 @@ use codes::inner::tracks::zero_run;
 use codes::refusals::Outcome;
 use codes::refusals::Refusal;
 use codes::units::Chars;
+use codes::units::TRAILING;
 use fields::inner::loads::bits_at;
 use fields::inner::parts::view_outcome;
 ghost use mathlib.Core.List.{_++_};
 ghost use mathlib.Core.Path.{_≡_};
 ghost use Prim.Native.Nat.{_+_, _*_, _/_, _%_, _^_, _≤_, _<_};
 ghost use lib.ListN.{length, drop};
-ghost use Rattle.codes.specs.Codes.{IsWidth, complement, up};
+ghost use Rattle.codes.specs.Codes.{IsWidth, complement, up, trailing};
 ghost use Rattle.codes.specs.Refusals.{first, ifDone};
 ghost use Rattle.codes.specs.Words.{word, charsOf, flip};
 ghost use Rattle.codes.specs.declared.refusals.Outcome.the-variants.{Done};
@@ -57,11 +58,11 @@ fn write_flipped(w: usize, bytes: &[u8], o: usize, len: usize, used: usize, out:
     requires { ⌜ IsWidth w ⌝ }
     requires { ⌜ w ≤ 2 ⌝ }
     requires { ⌜ first (viewTests w (length (now bytes)) o len) ≡ Done ⌝ }
-    requires { ⌜ (used ≡ up w len) × (used + 48 ≤ length (now out)) ⌝ }
+    requires { ⌜ (used ≡ up w len) × (used + trailing ≤ length (now out)) ⌝ }
     ensures { λ _. ⌜ now (out .exit) ≡ flippedOver w (now (bytes .entry)) o len (now (out .entry)) ⌝ }
 {
     flip_words(w, bytes, w * o, w * len, out);
-    zero_run(out, used, used + 48);
+    zero_run(out, used, used + TRAILING);
 }
 
 pub fn to_revcomp(w: usize, bytes: &[u8], offset: Chars, len: Chars, out: &mut [u8]) -> Outcome
@@ -74,7 +75,7 @@ pub fn to_revcomp(w: usize, bytes: &[u8], offset: Chars, len: Chars, out: &mut [
         Outcome::Refused(refusal) => Outcome::Refused(refusal),
         Outcome::Done => {
             let used = bytes_for(w, len).count();
-            if out.len() < used + 48 {
+            if out.len() < used + TRAILING {
                 return Outcome::Refused(Refusal::NoRoom);
             }
             write_flipped(w, bytes, offset.count(), len.count(), used, out);

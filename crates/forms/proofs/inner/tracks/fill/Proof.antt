@@ -6,6 +6,7 @@ use native.Mathlib.Omega.{arith}
 use lib.ListN.{length, drop}
 use lib.Seq.{take-length}
 use borrow.Author.Needs.{needs}
+use Rattle.codes.specs.Codes.{trailing}
 use Rattle.codes.proofs.MadeLaws.{made-at}
 use Rattle.forms.proofs.WriteLaws.{zeros-on}
 use Rattle.forms.proofs.inner.tracks.fill.Statement.{statement}
@@ -30,7 +31,7 @@ returns c =
     let a = o .before .before .before .before .args in
     let t = a .track .now in
     let k = o .copy .ensures in
-    zeros-on t (a .buffer .now) 48 (k .1 ∙ ap (λ (l : List ℕ). l ++ drop (length t) (a .buffer .now)) (take-length t)) (made-at 48 (s .zero-run .ensures) (k .0)) (omega arith)
+    zeros-on t (a .buffer .now) trailing (k .1 ∙ ap (λ (l : List ℕ). l ++ drop (length t) (a .buffer .now)) (take-length t)) (made-at trailing (s .zero-run .ensures) (k .0)) (omega arith)
 
 pub fill-spec : {M : Type 1} → statement M
 fill-spec = tie.close (tie.spec copy-requires add-zero-run zero-run-requires same-length returns)

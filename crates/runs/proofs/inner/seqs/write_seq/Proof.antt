@@ -5,7 +5,7 @@ use Prim.Native.Nat.{ℕ, _+_, _*_, _^_, _≤_}
 use native.Mathlib.Omega.{arith}
 use borrow.Author.Needs.{needs}
 use lib.ListN.{length}
-use Rattle.codes.specs.Codes.{IsWidth, per, up}
+use Rattle.codes.specs.Codes.{IsWidth, per, up, trailing}
 use Rattle.codes.proofs.MadeLaws.{made-at}
 use Rattle.runs.specs.Bytes.{placedChars}
 use Rattle.runs.specs.Runs.{spliced}
@@ -33,7 +33,7 @@ module _ (c : tie.After-count) where
   small : length (s .args .buffer .now) ≤ 2 ^ 28
   small = s .pre .1 .1 .0
 
-  room : up (s .args .w) end + 48 ≤ length (s .args .buffer .now)
+  room : up (s .args .w) end + trailing ≤ length (s .args .buffer .now)
   room = s .pre .1 .1 .1
 
   last-is : c .count .result ≡ up (s .args .w) end
@@ -75,7 +75,7 @@ returns c =
     let v = p k in
     let cs : List ℕ = placedChars (a .w) v (a .view .now) in
     let n : end k ≡ v .len + length cs = ap (λ (x : ℕ). x + v .count) (s k .pre .1 .0 .starts) ∙ sym (seq-end (W k) (v .len) (a .view .now) (v .offset) (v .count)) in
-    made-written (W k) (a .buffer .now) (v .len) cs (made-at 48 (z .zero-run .ensures) (last-is k ∙ ap (up (a .w)) n))
+    made-written (W k) (a .buffer .now) (v .len) cs (made-at trailing (z .zero-run .ensures) (last-is k ∙ ap (up (a .w)) n))
     (f .fill-seq .ensures ∙ ap (λ (x : ℕ). spliced (a .w) (a .buffer .now) (v .len) cs (up (a .w) x * per (a .w))) n)
 
 pub write-seq-spec : {M : Type 1} → statement M

@@ -6,7 +6,7 @@ use native.Mathlib.Nat.{le-of-eq}
 use native.Mathlib.Omega.{arith}
 use borrow.Author.Needs.{needs}
 use lib.ListN.{length, length-map}
-use Rattle.codes.specs.Codes.{IsWidth, per, up, code}
+use Rattle.codes.specs.Codes.{IsWidth, per, up, trailing, code}
 use Rattle.codes.proofs.MadeLaws.{made-at}
 use Rattle.codes.proofs.WidthLaws.{up-hi}
 use Rattle.runs.specs.Runs.{spliced}
@@ -29,7 +29,7 @@ module _ (c : tie.After-count) where
   small : length (s .args .buffer .now) ≤ 2 ^ 28
   small = s .pre .1 .0
 
-  room : up (s .args .w) end + 48 ≤ length (s .args .buffer .now)
+  room : up (s .args .w) end + trailing ≤ length (s .args .buffer .now)
   room = s .pre .1 .1
 
   used-is : c .before .bytes-for .result .0 ≡ up (s .args .w) end
@@ -86,7 +86,7 @@ returns c =
     let a = s k .args in
     let cs : List ℕ = map (code (a .w)) (a .letters .now) in
     let u : up (a .w) (end k) ≡ up (a .w) (a .at + length cs) = ap (λ (x : ℕ). up (a .w) (a .at + x)) (sym (length-map (a .letters .now) (code (a .w)))) in
-    made-written (W k) (a .buffer .now) (a .at) cs (made-at 48 (z .zero-run .ensures) (last-is k ∙ u))
+    made-written (W k) (a .buffer .now) (a .at) cs (made-at trailing (z .zero-run .ensures) (last-is k ∙ u))
     (f .fill-letters .ensures ∙ ap (spliced (a .w) (a .buffer .now) (a .at) cs) (stop-is (f .before .before) ∙ ap (λ (x : ℕ). x * per (a .w)) u))
 
 pub write-letters-spec : {M : Type 1} → statement M

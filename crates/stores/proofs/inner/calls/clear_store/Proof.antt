@@ -5,6 +5,7 @@ use native.Mathlib.Omega.{arith}
 use borrow.Author.Tests.{ltb-false}
 use borrow.Author.Needs.{needs}
 use lib.ListN.{length}
+use Rattle.codes.specs.Codes.{trailing}
 use Rattle.codes.specs.Refusals.{answer}
 use Rattle.codes.specs.declared.refusals.Outcome.the-variants.{Done, Refused}
 use Rattle.codes.proofs.WidthLaws.{up-le}
@@ -38,7 +39,7 @@ write-letters-requires c κs =
     let o = k .before .before .before in
     let s = o .before .before in
     let p = judged-passed (judged o) (k .enum-told .given .1) in
-    let long : 48 ≤ length (s .args .buffer .now) = ltb-false _ _ (p .1 .0) in
+    let long : trailing ≤ length (s .args .buffer .now) = ltb-false _ _ (p .1 .0) in
     (s .pre, (ltb-false _ _ (p .0), omega (arith, up-le (s .pre) 0)))
 
 returns : tie.Need-returns

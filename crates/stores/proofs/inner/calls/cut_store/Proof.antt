@@ -7,7 +7,7 @@ use native.Mathlib.Omega.{arith}
 use borrow.Author.Tests.{ltb-false}
 use borrow.Author.Needs.{needs}
 use lib.ListN.{length}
-use Rattle.codes.specs.Codes.{up}
+use Rattle.codes.specs.Codes.{up, trailing}
 use Rattle.codes.specs.Refusals.{first, tooLong, badStore, badEnd}
 use Rattle.codes.proofs.WidthLaws.{up-mono}
 use Rattle.stores.specs.Stores.{outcome, cut}
@@ -50,7 +50,7 @@ write-letters-requires c κs =
     let s = o .before .before .before .before in
     let n = o .before .before .count in
     let p = judged-passed (judged o) (k .enum-told .given .1) in
-    let sound : up (s .args .w) (s .args .len .0) + 48 ≤ length (s .args .buffer .now) = ltb-false _ _ (p .1 .0) in
+    let sound : up (s .args .w) (s .args .len .0) + trailing ≤ length (s .args .buffer .now) = ltb-false _ _ (p .1 .0) in
     let within : s .args .m .0 ≤ s .args .len .0 = ltb-false _ _ (p .1 .1 .0) in
     (s .pre, (ltb-false _ _ (p .0), omega (arith, up-mono (s .pre) (n .result + 0) (s .args .len .0) (omega (arith, n .ensures)))))
 

@@ -7,7 +7,7 @@ use native.Mathlib.Omega.{arith}
 use borrow.Author.Tests.{ltb-false}
 use borrow.Author.Needs.{needs}
 use lib.ListN.{length, length-map}
-use Rattle.codes.specs.Codes.{up, charAt, code}
+use Rattle.codes.specs.Codes.{up, trailing, charAt, code}
 use Rattle.codes.specs.Words.{pack}
 use Rattle.codes.proofs.WidthLaws.{up-hi, up-mono}
 use Rattle.stores.specs.Stores.{tests, outcome, overwrite}
@@ -36,7 +36,7 @@ module _ (c : tie.After-enum-told) where
   small : size ≤ 2 ^ 28
   small = ltb-false _ _ (passed .0)
 
-  sound : up (s .args .w) (s .args .len .0) + 48 ≤ size
+  sound : up (s .args .w) (s .args .len .0) + trailing ≤ size
   sound = ltb-false _ _ (passed .1 .0)
 
   within : s .args .start .0 + length (s .args .letters .now) ≤ s .args .len .0

@@ -6,7 +6,7 @@ use native.Mathlib.Omega.{arith}
 use borrow.Author.Tests.{ltb-false}
 use borrow.Author.Needs.{needs}
 use lib.ListN.{length}
-use Rattle.codes.specs.Codes.{up, code}
+use Rattle.codes.specs.Codes.{up, trailing, code}
 use Rattle.codes.specs.Refusals.{answer}
 use Rattle.codes.specs.declared.refusals.Outcome.the-variants.{Done}
 use Rattle.stores.specs.Stores.{tests, outcome, pushAscii}
@@ -35,7 +35,7 @@ module _ (c : tie.After-enum-told) where
   small : size ≤ 2 ^ 28
   small = ltb-false _ _ (passed .0)
 
-  room : up (s .args .w) (s .args .len .0 + length (s .args .letters .now)) + 48 ≤ size
+  room : up (s .args .w) (s .args .len .0 + length (s .args .letters .now)) + trailing ≤ size
   room = ltb-false _ _ (passed .1 .1 .0)
 
 letters-outcome-requires : tie.Need-letters-outcome-requires
@@ -63,7 +63,7 @@ write-letters-requires : tie.Need-write-letters-requires
 write-letters-requires c κs =
     let k = c .before .before .before in
     let a = s k .args in
-    (s k .pre, (small k, subst (λ (x : ℕ). up (a .w) (x + length (a .letters .now)) + 48 ≤ size k) (sym (c .before .count .ensures)) (room k)))
+    (s k .pre, (small k, subst (λ (x : ℕ). up (a .w) (x + length (a .letters .now)) + trailing ≤ size k) (sym (c .before .count .ensures)) (room k)))
 
 add-new : tie.Need-add-new
 add-new c =

@@ -5,7 +5,7 @@ use native.Mathlib.Omega.{arith}
 use borrow.Author.Tests.{ltb-false}
 use borrow.Author.Needs.{needs}
 use lib.ListN.{length}
-use Rattle.codes.specs.Codes.{per, up}
+use Rattle.codes.specs.Codes.{per, up, trailing}
 use Rattle.codes.specs.Refusals.{answer}
 use Rattle.codes.specs.declared.refusals.Outcome.the-variants.{Done}
 use Rattle.stores.specs.Stores.{tests, outcome, pushSeq}
@@ -38,13 +38,13 @@ module _ (c : tie.After-enum-told) where
   view-small : length (s .args .bytes .now) ≤ 2 ^ 28
   view-small = ltb-false _ _ (passed .1 .0)
 
-  sound : up (s .args .w) (s .args .len .0) + 48 ≤ size
+  sound : up (s .args .w) (s .args .len .0) + trailing ≤ size
   sound = ltb-false _ _ (passed .1 .1 .0)
 
-  view : s .args .offset .0 + s .args .count .0 + 48 * per (s .args .w) ≤ length (s .args .bytes .now) * per (s .args .w)
+  view : s .args .offset .0 + s .args .count .0 + trailing * per (s .args .w) ≤ length (s .args .bytes .now) * per (s .args .w)
   view = ltb-false _ _ (passed .1 .1 .1 .0)
 
-  room : up (s .args .w) (seqStart (s .args .w) (s .args .len .0) (s .args .offset .0) + s .args .count .0) + 48 ≤ size
+  room : up (s .args .w) (seqStart (s .args .w) (s .args .len .0) (s .args .offset .0) + s .args .count .0) + trailing ≤ size
   room = ltb-false _ _ (passed .1 .1 .1 .1 .0)
 
 seq-outcome-requires : tie.Need-seq-outcome-requires
@@ -80,7 +80,7 @@ write-seq-requires c κs =
       small = view-small k;
       inside = omega (arith, view k, o .count2 .ensures, c .before .count3 .ensures);
     } in
-    (s k .pre, (placed, (small k, subst (λ (x : ℕ). up w x + 48 ≤ size k) (sym (ap₂ _+_ at (c .before .count3 .ensures))) (room k))))
+    (s k .pre, (placed, (small k, subst (λ (x : ℕ). up w x + trailing ≤ size k) (sym (ap₂ _+_ at (c .before .count3 .ensures))) (room k))))
 
 new-requires : tie.Need-new-requires
 new-requires c κs = search needs

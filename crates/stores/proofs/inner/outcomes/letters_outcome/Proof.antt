@@ -5,7 +5,7 @@ use Prim.Native.Nat.{ℕ, _+_, _≤_}
 use native.Mathlib.Omega.{arith}
 use borrow.Author.Tests.{ltb-false}
 use borrow.Author.Needs.{needs}
-use Rattle.codes.specs.Codes.{up}
+use Rattle.codes.specs.Codes.{up, trailing}
 use Rattle.codes.specs.Refusals.{tooLong, badStore}
 use Rattle.stores.specs.Stores.{noStore}
 use Rattle.runs.proofs.RoomLaws.{room-chars}
@@ -38,13 +38,13 @@ add-no-room : tie.Need-add-no-room
 add-no-room c =
     let s = c .before .before .before .before .before in
     let a = s .args in
-    let l : up (a .w) (a .len .0) + 48 ≤ a .size = ltb-false _ _ (sound (c .before)) in
+    let l : up (a .w) (a .len .0) + trailing ≤ a .size = ltb-false _ _ (sound (c .before)) in
     omega (arith, room-chars (s .pre .0) (a .len .0) (a .size) (omega arith) (ltb-false _ _ (short (c .before .before .before))))
 
 no-room-requires : tie.Need-no-room-requires
 no-room-requires c κs =
     let s = c .before .before .before .before .before in
-    let l : up (s .args .w) (s .args .len .0) + 48 ≤ s .args .size = ltb-false _ _ (sound (c .before)) in
+    let l : up (s .args .w) (s .args .len .0) + trailing ≤ s .args .size = ltb-false _ _ (sound (c .before)) in
     (s .pre .0, omega arith)
 
 -- the last test

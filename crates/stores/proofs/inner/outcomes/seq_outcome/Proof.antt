@@ -6,7 +6,7 @@ use native.Mathlib.Nat.{mod-lt}
 use native.Mathlib.Omega.{arith}
 use borrow.Author.Tests.{ltb-false}
 use borrow.Author.Needs.{needs}
-use Rattle.codes.specs.Codes.{per, up}
+use Rattle.codes.specs.Codes.{per, up, trailing}
 use Rattle.codes.specs.Refusals.{tooLong, badStore, badView}
 use Rattle.runs.specs.Runs.{seqStart}
 use Rattle.stores.specs.Stores.{noStore}
@@ -63,7 +63,7 @@ seq-start-requires c κs =
     let k = c .before .before in
     let s = k .before .before .before .before .before .before in
     let h : s .args .size ≤ 2 ^ 28 = ltb-false _ _ (short (k .before .before .before .before)) in
-    let l : up (s .args .w) (s .args .len .0) + 48 ≤ s .args .size = ltb-false _ _ (sound k) in
+    let l : up (s .args .w) (s .args .len .0) + trailing ≤ s .args .size = ltb-false _ _ (sound k) in
     (s .pre, omega arith)
 
 count-requires : tie.Need-count-requires
@@ -76,8 +76,8 @@ add-no-room c =
     let s = k .before .before .before .before .before .before in
     let a = s .args in
     let h : a .size ≤ 2 ^ 28 = ltb-false _ _ (short (k .before .before .before .before)) in
-    let l : up (a .w) (a .len .0) + 48 ≤ a .size = ltb-false _ _ (sound k) in
-    let v : a .offset .0 + a .count .0 + 48 * per (a .w) ≤ a .bytes * per (a .w) = ltb-false _ _ (held x) in
+    let l : up (a .w) (a .len .0) + trailing ≤ a .size = ltb-false _ _ (sound k) in
+    let v : a .offset .0 + a .count .0 + trailing * per (a .w) ≤ a .bytes * per (a .w) = ltb-false _ _ (held x) in
     let few = chars-bound (s .pre) (a .bytes) (ltb-false _ _ (view-short (k .before .before))) in
     let long = chars-bound (s .pre) (up (a .w) (a .len .0)) (omega arith) in
     omega (arith, c .before .seq-start .ensures, c .count .ensures, few, long, mod-lt (a .offset .0) (per-pos (s .pre)), per-le (s .pre))
@@ -86,7 +86,7 @@ no-room-requires : tie.Need-no-room-requires
 no-room-requires c κs =
     let k = c .before .before .before .before in
     let s = k .before .before .before .before .before .before in
-    let l : up (s .args .w) (s .args .len .0) + 48 ≤ s .args .size = ltb-false _ _ (sound k) in
+    let l : up (s .args .w) (s .args .len .0) + trailing ≤ s .args .size = ltb-false _ _ (sound k) in
     (s .pre, omega arith)
 
 -- the last test

@@ -4,7 +4,7 @@ use mathlib.Core.Path.{_≡_, refl, sym, ap, ap₂, _∙_}
 use Prim.Native.Nat.{ℕ, _+_}
 use native.Mathlib.Omega.{arith}
 use lib.ListN.{length}
-use Rattle.codes.specs.Codes.{up}
+use Rattle.codes.specs.Codes.{up, trailing}
 use Rattle.codes.specs.Refusals.{Test, first, noRoom}
 use Rattle.codes.specs.declared.refusals.Outcome.the-variants.{Done}
 use Rattle.codes.proofs.WidthLaws.{up-le}
@@ -40,7 +40,7 @@ module _ (s : tie.Start) where
   size = length (s .args .out .now)
 
   abbrev needed : ℕ
-  needed = up (s .args .w) (s .args .len .0) + 48
+  needed = up (s .args .w) (s .args .len .0) + trailing
 
   abbrev room : List Test
   room = noRoom size needed ∷ []
