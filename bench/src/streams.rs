@@ -12,10 +12,12 @@ const LEN: Chars = Chars(LETTERS);
 const FIRST: usize = 10;
 const SECOND: usize = 20;
 
+type Buffers = [Vec<u32>; 3];
+
 /// What ours fills, what the original's is put into, and the buffers that the original is lent.
 struct State {
-    ours: [Vec<u32>; 3],
-    theirs: [Vec<u32>; 3],
+    ours: Buffers,
+    theirs: Buffers,
     words: [u32x8; 8],
     ring: Vec<u32x8>,
 }
@@ -45,14 +47,14 @@ fn steps(out: &mut [u32]) -> impl Iterator<Item = &mut [u32; 8]> {
 }
 
 #[inline(always)]
-fn put<I: ChunkIt<u32x8>>(stream: PaddedIt<I>, [x, _, _]: &mut [Vec<u32>; 3]) -> usize {
+fn put<I: ChunkIt<u32x8>>(stream: PaddedIt<I>, [x, _, _]: &mut Buffers) -> usize {
     let out = steps(x);
     stream.it.zip(out).for_each(|(a, x)| *x = *a.as_array());
     stream.padding
 }
 
 #[inline(always)]
-fn put_2<I: ChunkIt<(u32x8, u32x8)>>(stream: PaddedIt<I>, [x, y, _]: &mut [Vec<u32>; 3]) -> usize {
+fn put_2<I: ChunkIt<(u32x8, u32x8)>>(stream: PaddedIt<I>, [x, y, _]: &mut Buffers) -> usize {
     let out = steps(x).zip(steps(y));
     stream.it.zip(out).for_each(|((a, b), (x, y))| {
         *x = *a.as_array();
@@ -62,10 +64,7 @@ fn put_2<I: ChunkIt<(u32x8, u32x8)>>(stream: PaddedIt<I>, [x, y, _]: &mut [Vec<u
 }
 
 #[inline(always)]
-fn put_3<I: ChunkIt<(u32x8, u32x8, u32x8)>>(
-    stream: PaddedIt<I>,
-    [x, y, z]: &mut [Vec<u32>; 3],
-) -> usize {
+fn put_3<I: ChunkIt<(u32x8, u32x8, u32x8)>>(stream: PaddedIt<I>, [x, y, z]: &mut Buffers) -> usize {
     let out = steps(x).zip(steps(y)).zip(steps(z));
     stream.it.zip(out).for_each(|((a, b, c), ((x, y), z))| {
         *x = *a.as_array();
@@ -129,7 +128,7 @@ pub fn jobs(text: &[u8]) -> Result<(), Refusal> {
     let view = bases::View::new(inside::bytes(&theirs), Chars(0), LEN)?;
     let shape = bases::shape(LEN, CONTEXT, 1)?;
     let row = |name: &str,
-               ours: &dyn Fn(&mut [Vec<u32>; 3]) -> Result<Filled, Refusal>,
+               ours: &dyn Fn(&mut Buffers) -> Result<Filled, Refusal>,
                original: fn(PackedSeq, &mut State) -> usize| {
         job(
             name,
@@ -139,14 +138,14 @@ pub fn jobs(text: &[u8]) -> Result<(), Refusal> {
             same(shape),
         );
     };
-    let plain = |[x, _, _]: &mut [Vec<u32>; 3]| view.fill(CONTEXT, 1, x);
+    let plain = |[x, _, _]: &mut Buffers| view.fill(CONTEXT, 1, x);
     row("fill", &plain, lent);
     row("fill, original's own buffer", &plain, kept);
-    let one = |[x, y, _]: &mut [Vec<u32>; 3]| view.fill_delayed(CONTEXT, 1, Chars(FIRST), x, y);
+    let one = |[x, y, _]: &mut Buffers| view.fill_delayed(CONTEXT, 1, Chars(FIRST), x, y);
     row("fill, one delay", &one, lent_2);
     row("fill, one delay, own buffer", &one, kept_2);
     let delays = [Chars(FIRST), Chars(SECOND)];
-    let two = |[x, y, z]: &mut [Vec<u32>; 3]| view.fill_delayed_2(CONTEXT, 1, delays, x, y, z);
+    let two = |[x, y, z]: &mut Buffers| view.fill_delayed_2(CONTEXT, 1, delays, x, y, z);
     row("fill, two delays", &two, lent_3);
     row("fill, two delays, own buffer", &two, kept_3);
     windows(text)
