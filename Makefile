@@ -1,6 +1,7 @@
 # make test     the one test command: its last line is 'N passed, 0 failed', printed only where everything passed
 # make run      the program on a sample, or on a file: make run FASTA=path
-# make lib      the archive, the C header and a pkg-config file, under target/tsivelaro
+# make lib      the archive, the C header, a pkg-config file and a CMake package, under target/tsivelaro
+# make install  the same below a prefix: make install PREFIX=/usr/local DESTDIR=stage
 # make oracle   ours against the original, over a million comparisons
 # make bench    ours against the original, timed; and the program against another FASTA reader
 # make fuzz     random calls of the C face: make fuzz CALLS=100000000 SEED=7
@@ -9,7 +10,7 @@ FASTA = samples/reads.fa
 SOURCES := $(shell find crates -name '*.rt' -o -name '*.antt')
 LIB = target/tsivelaro/lib/libtsivelaro.a
 
-.PHONY: test run lib oracle bench fuzz
+.PHONY: test run lib install oracle bench fuzz
 
 test:
 	@tools/test
@@ -26,6 +27,9 @@ lib: $(LIB)
 
 $(LIB): crates.txt include/tsivelaro.h tools/lib $(SOURCES)
 	@tools/lib
+
+install: $(LIB)
+	@PREFIX="$(PREFIX)" DESTDIR="$(DESTDIR)" tools/install
 
 oracle: $(LIB)
 	@oracle/compare/run

@@ -15,7 +15,9 @@
  *   Stores      A buffer and a length in characters, the 48 bytes behind included: TSIV_BASES_ROOM(n), TSIV_FLAGS_ROOM(n).
  *   Answer      The refusal number: 0 where the call is done, else the lowest of the numbers named whose condition holds, never
  *               another. Refused, every number behind a pointer is 0, but for a store's length, which stays what it was, and
- *               not one byte of a buffer changes.
+ *               not one byte of a buffer changes. Numbers are what a call gives through a pointer without a size, the eight
+ *               entries of an array [8] among them; buffers are what comes with a size. Where a condition names an answer, as
+ *               in NO_ROOM for a buffer under TSIV_BASES_ROOM(*end), it is the value that the call would have given.
  *   Pointers    Read or written during the call alone. Buffers of bytes have any alignment, all else its type's own. No two of
  *               a call's pointers may overlap, unless both are only read. A buffer of size 0 may be NULL; no other pointer may.
  *   Threads     No global state, no allocation, no system call, and of the C library memset alone. Any number of threads may
@@ -25,7 +27,8 @@
  *             characters of a stored form                                    2^29
  *             a word of 64 bits: bases, flags                                 32, 64
  *             a word of 128 bits, as a low and a high half: bases, flags      64, 128
- *             a stream's context and delays                                   1 and 0 to 2^31
+ *             a stream's context                                              1 to 2^31
+ *             a stream's delays                                               0 to 2^31
  *             a window of flags                                               1 to 96
  */
 #ifndef TSIVELARO_H
@@ -45,12 +48,12 @@ extern "C" {
 #define TSIV_USE
 #endif
 
-/* ---- Version: major, minor, patch in 16, 8 and 8 bits; of this header, and of the archive that is linked. */
+/* ---- Version: major, minor, patch in 16, 8 and 8 bits, for #if too; of this header, and of the archive that is linked. */
 
 #define TSIV_VERSION_MAJOR 4
 #define TSIV_VERSION_MINOR 0
 #define TSIV_VERSION_PATCH 0
-#define TSIV_VERSION ((uint32_t)TSIV_VERSION_MAJOR << 16 | TSIV_VERSION_MINOR << 8 | TSIV_VERSION_PATCH)
+#define TSIV_VERSION (TSIV_VERSION_MAJOR * 65536u + TSIV_VERSION_MINOR * 256u + TSIV_VERSION_PATCH)
 
 uint32_t tsiv_version(void);
 
@@ -107,7 +110,7 @@ size_t tsiv_flags_room(size_t n);
 size_t tsiv_form_room(size_t n);
 
 /* The entries of so many steps of a stream or of windows; the largest size_t where that is more. */
-#define TSIV_LANES_ROOM(steps) ((size_t)8 * (size_t)(steps))
+#define TSIV_LANES_ROOM(steps) ((size_t)(steps) > SIZE_MAX / 8 ? SIZE_MAX : (size_t)8 * (size_t)(steps))
 size_t tsiv_lanes_room(size_t steps);
 
 /* ---- Letters and codes */
@@ -311,7 +314,7 @@ TSIV_USE uint32_t tsiv_flags_fill_delayed_2(const uint8_t *bytes, size_t bytes_s
                                             size_t out_size, uint32_t *out1, size_t out1_size, uint32_t *out2,
                                             size_t out2_size, size_t *steps, size_t *padding);
 
-/* The eight lanes of step j, and of each delay. TOO_LONG, BAD_VIEW; BAD_STREAM also for j at or past the steps. */
+/* The eight lanes of step j, and of each delay; zeros where it is refused. TOO_LONG, BAD_VIEW; BAD_STREAM also for j at or past the steps. */
 TSIV_USE uint32_t tsiv_bases_step(const uint8_t *bytes, size_t bytes_size, size_t offset, size_t len, size_t context,
                                   size_t factor, size_t j, uint32_t lanes[8]);
 TSIV_USE uint32_t tsiv_flags_step(const uint8_t *bytes, size_t bytes_size, size_t offset, size_t len, size_t context,
@@ -360,7 +363,10 @@ TSIV_USE uint32_t tsiv_form_write(const uint8_t *bases, size_t bases_size, size_
                                   const uint8_t *flags, size_t flags_size, size_t flag_offset, size_t flag_len,
                                   uint8_t *out, size_t out_size, size_t *written);
 
-/* Fills two buffers as stores of *len characters. TOO_LONG for the form or a buffer; BAD_FORM; NO_ROOM. */
+/*
+ * Fills two buffers as stores of *len characters. TOO_LONG for the form or a buffer; BAD_FORM; NO_ROOM for buffers under TSIV_BASES_ROOM(*len)
+ * and TSIV_FLAGS_ROOM(*len). The length stands in the form: where it is not known before, form_size + 48 bytes for each always suffice.
+ */
 TSIV_USE uint32_t tsiv_form_read(const uint8_t *form, size_t form_size, uint8_t *bases, size_t bases_size,
                                  uint8_t *flags, size_t flags_size, size_t *len);
 

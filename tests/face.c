@@ -21,6 +21,9 @@ static void versions_and_names(void)
 {
     HOLD(tsiv_version() == TSIV_VERSION);
     HOLD(TSIV_VERSION == 0x00040000);
+#if TSIV_VERSION < 0x00040000 || TSIV_VERSION >= 0x00050000
+#error "the version does not serve in #if"
+#endif
     static const char *names[] = {"DONE",     "TOO_LONG",   "BAD_STORE", "BAD_VIEW",   "BAD_RANGE",
                                   "BAD_WORD", "BAD_LETTER", "BAD_FORM",  "BAD_STREAM", "NO_ROOM"};
     for (uint32_t i = 0; i < 10; i++)
@@ -42,7 +45,9 @@ static void rooms(void)
     }
     HOLD(right);
     HOLD(tsiv_bases_room(SIZE_MAX) == SIZE_MAX / 4 + 1 + 48);
-    HOLD(tsiv_lanes_room(SIZE_MAX) == SIZE_MAX);
+    for (size_t n = SIZE_MAX / 8 - 1; n < SIZE_MAX / 8 + 3; n++)
+        HOLD(tsiv_lanes_room(n) == TSIV_LANES_ROOM(n));
+    HOLD(tsiv_lanes_room(SIZE_MAX) == SIZE_MAX && TSIV_LANES_ROOM(SIZE_MAX) == SIZE_MAX);
 }
 
 /* The examples of the rules, each side of the line. */

@@ -1,18 +1,27 @@
 /*
- * Random numbers and buffers for every call of the C face. After each call: the bytes around every buffer are as they were; a buffer
- * that is only read is as it was; a buffer that is written changed only in the run of bytes that the rules name; a refused call changed
- * no byte and gave zeros, and a store its old length. With the word `exact` buffers have no guard bytes, so that a memory checker sees
- * every access outside them.
+ * Random numbers and buffers for every call of the C face. All that a call is lent, numbers behind pointers too, lies in a page of its own
+ * between two pages that cannot be touched, at the page's start or at its end by chance, so that a byte read or written outside is a
+ * fault; what is only read lies in a page that can only be read. After each turn every byte around is as it was; a buffer that is
+ * written changed only in the run of bytes that the rules name; a refused call changed no byte and gave zeros, and a store its old
+ * length. A stored form that was written is read back and compared, and one that was read is written again.
  *
- *     fuzz CALLS SEED [exact]
+ * With the word `exact` all that is lent is allocated to the byte instead, for a checker that watches allocations.
+ *
+ *     fuzz TURNS SEED [exact]
+ *
+ * Ends with 0 where all is well, with 1 where a check failed, with 3 at a fault.
  */
+#define _DEFAULT_SOURCE
+#include <signal.h>
 #include <stdio.h>
 #include <stdlib.h>
 #include <string.h>
+#include <sys/mman.h>
 #include <tsivelaro.h>
+#include <unistd.h>
 
 static uint64_t state;
-static size_t guard = 32;
+static bool exact;
 
 static uint64_t dice(void)
 {
@@ -40,51 +49,121 @@ static size_t number(size_t near)
     }
 }
 
-struct buffer {
-    uint8_t *memory, *bytes, *before;
-    size_t size;
-};
-
-static struct buffer make(size_t size)
-{
-    struct buffer b = {malloc(size + 2 * guard + 1), NULL, malloc(size + 1), size};
-    /* exact: the buffer ends where the allocation ends */
-    if (guard == 0)
-        b.memory = realloc(b.memory, size ? size : 1);
-    b.bytes = b.memory + guard;
-    memset(b.memory, 0xA5, guard);
-    for (size_t i = 0; i < size; i++)
-        b.bytes[i] = below(3) ? (uint8_t)dice() : "ACGTNacgtn>\n"[below(12)];
-    if (guard)
-        memset(b.bytes + size, 0xA5, guard);
-    memcpy(b.before, b.bytes, size);
-    return b;
-}
-
-static const char *asked;
-static unsigned long failures;
+static const char *asked = "nothing";
+static unsigned long failures, turn;
 
 static void fail(const char *what)
 {
     if (failures++ < 20)
-        printf("fuzz: %s: %s\n", asked, what);
+        printf("fuzz: turn %lu, %s: %s\n", turn, asked, what);
 }
 
-/* The buffer may have changed from byte `from` up to byte `to` alone; then it is given back. */
-static void keep(struct buffer b, size_t from, size_t to)
+static void fault(int number)
 {
-    for (size_t i = 0; i < guard; i++)
-        if (b.memory[i] != 0xA5 || b.bytes[b.size + i] != 0xA5) {
-            fail("a byte around a buffer changed");
-            break;
-        }
-    for (size_t i = 0; i < b.size; i++)
-        if ((i < from || i >= to) && b.bytes[i] != b.before[i]) {
-            fail("a byte outside the run changed");
-            break;
-        }
-    free(b.memory);
-    free(b.before);
+    printf("fuzz: turn %lu, %s: signal %d: a byte was touched that was not lent, or only to be read\n", turn, asked,
+           number);
+    fflush(stdout);
+    _exit(3);
+}
+
+/* What is lent in a turn. Its bytes from `from` up to `to` may change. */
+#define MOST 16
+static struct buffer {
+    uint8_t *page, *before, *bytes;
+    size_t size, from, to;
+    bool only_read;
+} lent[MOST];
+static size_t page, taken, ready;
+
+static void pages(void)
+{
+    page = (size_t)sysconf(_SC_PAGESIZE);
+    for (size_t i = 0; i < MOST; i++) {
+        uint8_t *at = mmap(NULL, 3 * page, PROT_NONE, MAP_PRIVATE | MAP_ANONYMOUS, -1, 0);
+        lent[i].before = malloc(page);
+        if (at == MAP_FAILED || mprotect(at + page, page, PROT_READ | PROT_WRITE) || !lent[i].before)
+            abort();
+        lent[i].page = at + page;
+    }
+}
+
+static struct buffer *place(size_t size)
+{
+    struct buffer *b = &lent[taken];
+    if (taken++ == MOST || size > page)
+        abort();
+    b->bytes = exact ? malloc(size) : below(2) ? b->page : b->page + (page - size);
+    b->size = size;
+    b->from = b->to = 0;
+    b->only_read = false;
+    return b;
+}
+
+/* A buffer of any bytes, not one of which may change unless it is said after the call. */
+static struct buffer *make(size_t size)
+{
+    struct buffer *b = place(size);
+    for (size_t i = 0; i < size; i++)
+        b->bytes[i] = below(3) ? (uint8_t)dice() : "ACGTNacgtn>\n"[below(12)];
+    return b;
+}
+
+/* One that can only be read from the next call on. */
+static struct buffer *input(size_t size)
+{
+    struct buffer *b = make(size);
+    b->only_read = true;
+    return b;
+}
+
+/* Numbers for a call to write: sevens before. */
+static void *cell(size_t size)
+{
+    struct buffer *b = place(size);
+    memset(b->bytes, 7, size);
+    b->to = size;
+    return b->bytes;
+}
+#define CELL(type) ((type *)cell(sizeof(type)))
+
+static uint8_t *whole(struct buffer *b) { return exact ? b->bytes : b->page; }
+static size_t whole_size(struct buffer *b) { return exact ? b->size : page; }
+
+/* Before a call: what was made since the last one is kept in mind. */
+static void lend(void)
+{
+    for (; ready < taken; ready++) {
+        struct buffer *b = &lent[ready];
+        memcpy(b->before, whole(b), whole_size(b));
+        if (!exact && b->only_read && mprotect(b->page, page, PROT_READ))
+            abort();
+    }
+}
+
+/* The bytes of a buffer that the calls of this turn may have changed. */
+static void changed(struct buffer *b, size_t from, size_t to)
+{
+    b->from = from < to ? from : to;
+    b->to = to;
+}
+
+/* After the last call of a turn: all else is as it was. */
+static void settle(void)
+{
+    for (size_t i = 0; i < taken; i++) {
+        struct buffer *b = &lent[i];
+        uint8_t *now = whole(b);
+        size_t at = (size_t)(b->bytes - now), from = at + b->from, to = at + b->to;
+        if (b->to > b->size)
+            fail("a run beyond its buffer");
+        else if (memcmp(now, b->before, from) || memcmp(now + to, b->before + to, whole_size(b) - to))
+            fail("a byte changed that had to stay");
+        if (exact)
+            free(b->bytes);
+        else if (b->only_read && mprotect(b->page, page, PROT_READ | PROT_WRITE))
+            abort();
+    }
+    taken = ready = 0;
 }
 
 #define CALLS 80
@@ -116,7 +195,8 @@ static void zero(uint32_t no, uint64_t sum)
 
 /* Asks a call, whose answer goes to `no`; and holds that beside a refusal a sum of its numbers is 0. */
 #define ZERO(call, sum) ((void)(call), zero(no, sum))
-#define ASK(name, ...) (asked = #name, no = tsiv_##name(__VA_ARGS__), count(no))
+#define ASK(name, ...) (asked = #name, lend(), no = tsiv_##name(__VA_ARGS__), count(no))
+#define BOTH(name, ...) (w == 2 ? ASK(bases_##name, __VA_ARGS__) : ASK(flags_##name, __VA_ARGS__))
 
 /* ceil(n / C8) */
 static size_t up(size_t w, size_t n)
@@ -125,37 +205,47 @@ static size_t up(size_t w, size_t n)
     return n / c + (n % c != 0);
 }
 
+static unsigned character(size_t w, const uint8_t *bytes, size_t i)
+{
+    return (unsigned)(bytes[i * w / 8] >> i * w % 8) & ((1u << w) - 1);
+}
+
+/* Whether a store of n characters ends as it must: zeros in the last byte, then 48 bytes of them. */
+static bool ended(size_t w, const uint8_t *store, size_t n)
+{
+    for (size_t i = n; i < (up(w, n) + 48) * (8 / w); i++)
+        if (character(w, store, i))
+            return false;
+    return true;
+}
+
 static void letters_and_words(void)
 {
-    uint8_t x = 7, byte = (uint8_t)dice();
-    uint64_t low = 7, high = 7, a = dice(), b = dice();
+    uint8_t *x = CELL(uint8_t), byte = (uint8_t)dice();
+    uint64_t *low = CELL(uint64_t), *high = CELL(uint64_t), a = dice(), b = dice();
     uint32_t no;
     size_t k = number(64);
-    struct buffer l = make(below(70)), out = make(below(70));
+    struct buffer *l = input(below(70)), *out = make(below(70));
     switch (below(12)) {
-    case 0: ZERO(ASK(pack_char, byte, &x), x); break;
-    case 1: ZERO(ASK(unpack_base, byte % 8, &x), x); break;
-    case 2: ZERO(ASK(complement_char, byte, &x), x); break;
-    case 3: ZERO(ASK(complement_base, byte % 8, &x), x); break;
-    case 4: ZERO(ASK(pack_kmer_lossy, l.bytes, l.size, &low), low); break;
-    case 5: ZERO(ASK(pack_kmer_u128_lossy, l.bytes, l.size, &low, &high), low | high); break;
+    case 0: ZERO(ASK(pack_char, byte, x), *x); break;
+    case 1: ZERO(ASK(unpack_base, byte % 8, x), *x); break;
+    case 2: ZERO(ASK(complement_char, byte, x), *x); break;
+    case 3: ZERO(ASK(complement_base, byte % 8, x), *x); break;
+    case 4: ZERO(ASK(pack_kmer_lossy, l->bytes, l->size, low), *low); break;
+    case 5: ZERO(ASK(pack_kmer_u128_lossy, l->bytes, l->size, low, high), *low | *high); break;
     case 6:
-        ASK(unpack_kmer, a, k, out.bytes, out.size);
-        keep(l, 0, 0);
-        keep(out, 0, no ? 0 : k);
-        return;
+        ASK(unpack_kmer, a, k, out->bytes, out->size);
+        changed(out, 0, no ? 0 : k);
+        break;
     case 7:
-        ASK(unpack_kmer_u128, a, b, k, out.bytes, out.size);
-        keep(l, 0, 0);
-        keep(out, 0, no ? 0 : k);
-        return;
-    case 8: ZERO(ASK(revcomp_u64, a, k, &low), low); break;
-    case 9: ZERO(ASK(revcomp_u128, a, b, k, &low, &high), low | high); break;
-    case 10: ZERO(ASK(rev_u64, a, k, &low), low); break;
-    default: ZERO(ASK(rev_u128, a, b, k, &low, &high), low | high); break;
+        ASK(unpack_kmer_u128, a, b, k, out->bytes, out->size);
+        changed(out, 0, no ? 0 : k);
+        break;
+    case 8: ZERO(ASK(revcomp_u64, a, k, low), *low); break;
+    case 9: ZERO(ASK(revcomp_u128, a, b, k, low, high), *low | *high); break;
+    case 10: ZERO(ASK(rev_u64, a, k, low), *low); break;
+    default: ZERO(ASK(rev_u128, a, b, k, low, high), *low | *high); break;
     }
-    keep(l, 0, 0);
-    keep(out, 0, 0);
 }
 
 /* A view that is accepted, more often than not. */
@@ -168,223 +258,238 @@ static void view(size_t w, size_t size, size_t *offset, size_t *len)
         *len = below(34);
 }
 
-#define BOTH(name, ...) (w == 2 ? ASK(bases_##name, __VA_ARGS__) : ASK(flags_##name, __VA_ARGS__))
-
 static void one_view(size_t w)
 {
-    struct buffer v = make(below(180)), out = make(below(180));
-    size_t o, n, a = 7, b = 7, c = 7, d = 7, from = 0, to = 0;
-    uint8_t x = 7;
-    uint64_t low = 7, high = 7;
+    struct buffer *v = input(below(180)), *out = make(below(180));
+    size_t o, n, *a = CELL(size_t), *b = CELL(size_t), *c = CELL(size_t), *d = CELL(size_t);
+    uint8_t *x = CELL(uint8_t);
+    uint64_t *low = CELL(uint64_t), *high = CELL(uint64_t);
     uint32_t no;
-    view(w, v.size, &o, &n);
-    size_t i = number(n), s = number(n), e = number(n);
+    view(w, v->size, &o, &n);
+    size_t e = below(3) ? below(n + 1) : number(n), s = below(3) ? below(e + 1) : number(n);
+    size_t i = below(3) ? below(e - s) : number(n);
+#define VIEW v->bytes, v->size, o, n
     switch (below(11)) {
-    case 0: ZERO(BOTH(get, v.bytes, v.size, o, n, i, &x), x); break;
-    case 1: ZERO(BOTH(get_sliced, v.bytes, v.size, o, n, s, e, i, &x), x); break;
-    case 2: ZERO(BOTH(view, v.bytes, v.size, o, n, &a, &b, &c, &d), a | b | c | d); break;
-    case 3: ZERO(BOTH(slice, v.bytes, v.size, o, n, s, e, &a, &b, &c, &d), a | b | c | d); break;
+    case 0: ZERO(BOTH(get, VIEW, i, x), *x); break;
+    case 1: ZERO(BOTH(get_sliced, VIEW, s, e, i, x), *x); break;
+    case 2: ZERO(BOTH(view, VIEW, a, b, c, d), *a | *b | *c | *d); break;
+    case 3: ZERO(BOTH(slice, VIEW, s, e, a, b, c, d), *a | *b | *c | *d); break;
     case 4:
-        ZERO(BOTH(normalise, v.bytes, v.size, o, n, &a, &b, &c, &d), a | b | c | d);
-        if (a > v.size || b > v.size - a)
+        ZERO(BOTH(normalise, VIEW, a, b, c, d), *a | *b | *c | *d);
+        if (*a > v->size || *b > v->size - *a)
             fail("a part outside the bytes");
         break;
-    case 5: ZERO(BOTH(as_u64, v.bytes, v.size, o, n, &low), low); break;
-    case 6: ZERO(BOTH(as_u128, v.bytes, v.size, o, n, &low, &high), low | high); break;
-    case 7: ZERO(BOTH(revcomp_as_u64, v.bytes, v.size, o, n, &low), low); break;
-    case 8: ZERO(BOTH(revcomp_as_u128, v.bytes, v.size, o, n, &low, &high), low | high); break;
+    case 5: ZERO(BOTH(as_u64, VIEW, low), *low); break;
+    case 6: ZERO(BOTH(as_u128, VIEW, low, high), *low | *high); break;
+    case 7: ZERO(BOTH(revcomp_as_u64, VIEW, low), *low); break;
+    case 8: ZERO(BOTH(revcomp_as_u128, VIEW, low, high), *low | *high); break;
     case 9:
-        if (BOTH(to_revcomp, v.bytes, v.size, o, n, out.bytes, out.size) == 0)
-            to = up(w, n) + 48;
+        if (BOTH(to_revcomp, VIEW, out->bytes, out->size) == 0) {
+            changed(out, 0, up(w, n) + 48);
+            if (!ended(w, out->bytes, n))
+                fail("the 48 zeros");
+        }
         break;
     default:
-        if (ASK(bases_unpack, v.bytes, v.size, o, n, out.bytes, out.size) == 0)
-            to = n;
+        if (ASK(bases_unpack, VIEW, out->bytes, out->size) == 0)
+            changed(out, 0, n);
     }
-    keep(v, 0, 0);
-    keep(out, from, to);
 }
 
 static void two_views(size_t w)
 {
-    struct buffer p = make(below(120)), q = make(below(120));
-    size_t o, n, r, m, a = 7, b = 7, c = 7, d = 7;
-    bool flag = true;
-    int32_t order = 7;
+    struct buffer *p = input(below(120)), *q = below(4) ? input(below(2) ? p->size : below(120)) : p;
+    size_t o, n, r, m, *a = CELL(size_t), *b = CELL(size_t), *c = CELL(size_t), *d = CELL(size_t);
+    bool *flag = CELL(bool);
+    int32_t *order = CELL(int32_t);
     uint32_t no;
-    if (below(2) && p.size == q.size) {
-        memcpy(q.bytes, p.bytes, p.size);
-        memcpy(q.before, p.bytes, p.size);
-    }
-    view(w, p.size, &o, &n);
-    view(w, q.size, &r, &m);
+    if (q != p && q->size == p->size && below(2))
+        memcpy(q->bytes, p->bytes, p->size);
+    view(w, p->size, &o, &n);
+    view(w, q->size, &r, &m);
     if (below(3) == 0)
         n = below(4);
-#define PAIR p.bytes, p.size, o, n, q.bytes, q.size, r, m
+#define PAIR p->bytes, p->size, o, n, q->bytes, q->size, r, m
     switch (below(5)) {
-    case 0: ZERO(BOTH(cmp_lcp, PAIR, &order, &a), (uint64_t)order | a); break;
-    case 1: ZERO(BOTH(cmp, PAIR, &order), (uint64_t)order); break;
-    case 2: ZERO(BOTH(eq, PAIR, &flag), flag); break;
-    case 3: ZERO(BOTH(find, PAIR, &flag, &a), flag | a); break;
-    default: ZERO(BOTH(least, PAIR, &flag, &a, &b, &c, &d), flag | a | b | c | d);
+    case 0: ZERO(BOTH(cmp_lcp, PAIR, order, a), (uint64_t)*order | *a); break;
+    case 1: ZERO(BOTH(cmp, PAIR, order), (uint64_t)*order); break;
+    case 2: ZERO(BOTH(eq, PAIR, flag), *flag); break;
+    case 3: ZERO(BOTH(find, PAIR, flag, a), *flag | *a); break;
+    default: ZERO(BOTH(least, PAIR, flag, a, b, c, d), *flag | *a | *b | *c | *d);
     }
-    if (order < -1 || (order > 1 && order != 7))
+    if (*order < -1 || (*order > 1 && *order != 0x07070707))
         fail("no such order");
-    keep(p, 0, 0);
-    keep(q, 0, 0);
 }
 
 static void stores(size_t w)
 {
-    struct buffer s = make(below(160)), v = make(below(120));
-    size_t room = s.size < 48 ? 0 : (s.size - 48) * (8 / w), c8 = 8 / w;
-    size_t len = below(4) ? below(room + 1) : number(room), old = len, o, n, a = 7, b = 7, from = 0, to = 0;
+    struct buffer *s = make(below(160)), *v = input(below(120));
+    size_t room = s->size < 48 ? 0 : (s->size - 48) * (8 / w), c8 = 8 / w;
+    size_t *len = CELL(size_t), *a = CELL(size_t), *b = CELL(size_t), o, n, from = 0, to = 0;
+    *len = below(4) ? below(room + 1) : number(room);
     uint32_t no;
     bool ends = true;
-    view(w, v.size, &o, &n);
-    size_t m = number(len);
+    view(w, v->size, &o, &n);
+    size_t old = *len, m = number(old);
+#define STORE s->bytes, s->size, len
     switch (below(5)) {
     case 0:
-        BOTH(clear, s.bytes, s.size, &len);
-        if (len)
+        BOTH(clear, STORE);
+        if (*len)
             fail("a cleared store has a length");
         to = no ? 0 : 48;
         old = 0;
         break;
     case 1:
-        ZERO(BOTH(push_ascii, s.bytes, s.size, &len, v.bytes, v.size % 40, &a, &b), a | b);
-        if (!no && (a != old || b != len || len != old + v.size % 40))
+        ZERO(BOTH(push_ascii, STORE, v->bytes, v->size % 40, a, b), *a | *b);
+        if (!no && (*a != old || *b != *len || *len != old + v->size % 40))
             fail("the span of a push");
         from = old / c8;
-        to = no || v.size % 40 == 0 ? 0 : up(w, len) + 48;
+        to = no || v->size % 40 == 0 ? 0 : up(w, *len) + 48;
         break;
     case 2:
-        ZERO(BOTH(push_seq, s.bytes, s.size, &len, v.bytes, v.size, o, n, &a, &b), a | b);
-        if (!no && (a != up(w, old) * c8 + o % c8 || b != a + n || len != b))
+        ZERO(BOTH(push_seq, STORE, VIEW, a, b), *a | *b);
+        if (!no && (*a != up(w, old) * c8 + o % c8 || *b != *a + n || *len != *b))
             fail("the span of a push");
         from = old / c8;
-        to = no ? 0 : up(w, len) + 48;
+        to = no ? 0 : up(w, *len) + 48;
         break;
     case 3:
-        BOTH(overwrite, s.bytes, s.size, &len, m, v.bytes, v.size % 20);
+        BOTH(overwrite, STORE, m, v->bytes, v->size % 20);
         from = m / c8;
-        to = no || v.size % 20 == 0 ? 0 : up(w, m + v.size % 20);
+        to = no || v->size % 20 == 0 ? 0 : up(w, m + v->size % 20);
         ends = false;
-        if (len != old)
+        if (*len != old)
             fail("overwriting moved the length");
         break;
     default:
-        BOTH(cut, s.bytes, s.size, &len, m);
+        BOTH(cut, STORE, m);
         from = m / c8;
         to = no ? 0 : up(w, m) + 48;
-        if (!no && len != m)
+        if (!no && *len != m)
             fail("the length of a cut");
     }
-    if (no && len != old)
+    if (no && *len != old)
         fail("a refused call moved the length");
-    for (size_t i = 1; ends && to && i <= 48; i++)
-        if (s.bytes[to - i]) {
-            fail("the 48 zeros");
-            break;
-        }
-    keep(s, from, to);
-    keep(v, 0, 0);
+    if (ends && to && !ended(w, s->bytes, *len))
+        fail("the 48 zeros");
+    changed(s, from, to);
 }
 
-/* A buffer of entries, as bytes that lie on their own alignment. */
-static uint32_t *entries(struct buffer b) { return (uint32_t *)(void *)b.bytes; }
+/* A buffer of entries, which lies on their alignment. */
+static uint32_t *entries(struct buffer *b) { return (uint32_t *)(void *)b->bytes; }
 
 static void streams(size_t w)
 {
-    struct buffer v = make(below(120)), x = make(4 * below(700)), y = make(4 * below(700)), z = make(4 * below(700));
-    size_t o, n, steps = 7, padding = 7, lane = 7, fx = 0, fy = 0, fz = 0;
-    uint32_t no, l[8], p[8], q[8], counts[8];
-    view(w, v.size, &o, &n);
+    struct buffer *v = input(below(120)), *x = make(4 * below(700)), *y = make(4 * below(700)),
+                  *z = make(4 * below(700));
+    struct buffer *counts = input(32);
+    size_t o, n, *steps = CELL(size_t), *padding = CELL(size_t), *lane = CELL(size_t), fx = 0, fy = 0, fz = 0;
+    uint32_t no, *l = cell(32), *p = cell(32), *q = cell(32);
+    view(w, v->size, &o, &n);
     size_t c = below(3) ? 1 + below(9) : number(n), f = below(8) ? 1 + below(2) : number(3), j = number(n / 8 + c);
     size_t d = below(4) ? below(12) : number(20), e = below(4) ? d + below(9) : number(20);
     size_t k = below(4) ? 1 + below(12) : number(96), skip = below(3) ? below(4) : number(20);
-    memset(l, 7, sizeof l), memset(p, 7, sizeof p), memset(q, 7, sizeof q);
     for (int i = 0; i < 8; i++)
-        counts[i] = below(3) ? 0 : (uint32_t)number(k);
-#define VIEW v.bytes, v.size, o, n
+        entries(counts)[i] = below(3) ? 0 : (uint32_t)number(k);
+#define ENTRIES(b) entries(b), b->size / 4
 #define LANES(t) (t[0] | t[1] | t[2] | t[3] | t[4] | t[5] | t[6] | t[7])
     switch (below(w == 1 ? 9 : 7)) {
-    case 0: ZERO(BOTH(shape, n, c, f, &lane, &padding, &steps), lane | padding | steps); break;
+    case 0: ZERO(BOTH(shape, n, c, f, lane, padding, steps), *lane | *padding | *steps); break;
     case 1:
-        ZERO(BOTH(fill, VIEW, c, f, entries(x), x.size / 4, &steps, &padding), steps | padding);
-        fx = no ? 0 : 32 * steps;
+        ZERO(BOTH(fill, VIEW, c, f, ENTRIES(x), steps, padding), *steps | *padding);
+        fx = no ? 0 : 32 * *steps;
         break;
     case 2:
-        ZERO(BOTH(fill_delayed, VIEW, c, f, d, entries(x), x.size / 4, entries(y), y.size / 4, &steps, &padding),
-             steps | padding);
-        fx = fy = no ? 0 : 32 * steps;
+        ZERO(BOTH(fill_delayed, VIEW, c, f, d, ENTRIES(x), ENTRIES(y), steps, padding), *steps | *padding);
+        fx = fy = no ? 0 : 32 * *steps;
         break;
     case 3:
-        ZERO(BOTH(fill_delayed_2, VIEW, c, f, d, e, entries(x), x.size / 4, entries(y), y.size / 4, entries(z),
-                  z.size / 4, &steps, &padding),
-             steps | padding);
-        fx = fy = fz = no ? 0 : 32 * steps;
+        ZERO(BOTH(fill_delayed_2, VIEW, c, f, d, e, ENTRIES(x), ENTRIES(y), ENTRIES(z), steps, padding),
+             *steps | *padding);
+        fx = fy = fz = no ? 0 : 32 * *steps;
         break;
     case 4: ZERO(BOTH(step, VIEW, c, f, j, l), LANES(l)); break;
     case 5: ZERO(BOTH(step_delayed, VIEW, c, f, d, j, l, p), LANES(l) | LANES(p)); break;
     case 6: ZERO(BOTH(step_delayed_2, VIEW, c, f, d, e, j, l, p, q), LANES(l) | LANES(p) | LANES(q)); break;
     case 7:
-        ZERO(ASK(flags_fill_windows, VIEW, c, k, skip, entries(x), x.size / 4, &steps, &padding), steps | padding);
-        fx = no ? 0 : 32 * steps;
+        ZERO(ASK(flags_fill_windows, VIEW, c, k, skip, ENTRIES(x), steps, padding), *steps | *padding);
+        fx = no ? 0 : 32 * *steps;
         break;
     default:
-        ZERO(ASK(flags_step_windows, VIEW, c, k, counts, j, l, p, &steps), LANES(l) | LANES(p) | steps);
-        if (!no && steps != j + 1)
+        ZERO(ASK(flags_step_windows, VIEW, c, k, entries(counts), j, l, p, steps), LANES(l) | LANES(p) | *steps);
+        if (!no && *steps != j + 1)
             fail("the next step");
     }
-    keep(v, 0, 0);
-    keep(x, 0, fx);
-    keep(y, 0, fy);
-    keep(z, 0, fz);
+    changed(x, 0, fx);
+    changed(y, 0, fy);
+    changed(z, 0, fz);
+}
+
+/* Whether a store holds the n characters of a track from an offset on, and ends as it must. */
+static bool holds(size_t w, const struct buffer *store, const struct buffer *track, size_t offset, size_t n)
+{
+    for (size_t i = 0; i < n; i++)
+        if (character(w, store->bytes, i) != character(w, track->bytes, offset + i))
+            return false;
+    return ended(w, store->bytes, n);
 }
 
 static void forms(void)
 {
-    struct buffer b = make(below(140)), f = make(below(140)), out = make(below(140));
-    size_t o, n, r, m, len = 7;
+    struct buffer *b = input(below(140)), *f = input(below(140)), *out = make(below(200));
+    size_t o, n, r, m, *len = CELL(size_t), *again = CELL(size_t);
     uint32_t no;
-    view(2, b.size, &o, &n);
-    view(1, f.size, &r, &m);
+    view(2, b->size, &o, &n);
+    view(1, f->size, &r, &m);
     if (below(4))
         m = n = n < m ? n : m;
-    ASK(form_write, b.bytes, b.size, o, n, f.bytes, f.size, r, m, out.bytes, out.size, &len);
-    zero(no, len);
-    size_t size = len;
-    if (!no && len != TSIV_FORM_ROOM(n))
+    ASK(form_write, b->bytes, b->size, o, n, f->bytes, f->size, r, m, out->bytes, out->size, len);
+    zero(no, *len);
+    size_t size = *len;
+    bool right = !no;
+    if (right && size != TSIV_FORM_ROOM(n))
         fail("the size of a form");
-    /* Read it back, now and then with one bit turned, or a byte more or less. */
-    struct buffer form = make(no ? below(40) : size + below(3) - (size && below(4) == 0)), x = make(below(140)),
-                  y = make(below(140));
-    if (!no)
-        memcpy(form.bytes, out.bytes, size < form.size ? size : form.size);
-    if (form.size && below(3) == 0)
-        form.bytes[below(form.size)] ^= (uint8_t)(1 << below(8));
-    memcpy(form.before, form.bytes, form.size);
-    keep(b, 0, 0);
-    keep(f, 0, 0);
-    keep(out, 0, size);
-    len = 7;
-    ASK(form_read, form.bytes, form.size, x.bytes, x.size, y.bytes, y.size, &len);
-    zero(no, len);
-    keep(form, 0, 0);
-    keep(x, 0, no ? 0 : up(2, len) + 48);
-    keep(y, 0, no ? 0 : up(1, len) + 48);
+    changed(out, 0, size);
+    /* It is read back: as it is, or with a byte more or less, or with a bit turned. */
+    size_t other = right ? size + (below(4) == 0) - (size && below(4) == 0) : below(40);
+    struct buffer *form = input(other), *x = make(48 + below(120) - below(3)), *y = make(48 + below(80) - below(3));
+    if (right)
+        memcpy(form->bytes, out->bytes, size < other ? size : other);
+    if (other && below(4) == 0)
+        form->bytes[below(other)] ^= (uint8_t)(1 << below(8));
+    right = right && size == other && memcmp(form->bytes, out->bytes, size) == 0;
+    *len = 7;
+    ASK(form_read, form->bytes, form->size, x->bytes, x->size, y->bytes, y->size, len);
+    zero(no, *len);
+    if (right && no != (x->size < up(2, n) + 48 || y->size < up(1, n) + 48 ? TSIV_NO_ROOM : TSIV_DONE))
+        fail("a form that was written is not read");
+    if (no)
+        return;
+    changed(x, 0, up(2, *len) + 48);
+    changed(y, 0, up(1, *len) + 48);
+    if (right && (*len != n || !holds(2, x, b, o, n) || !holds(1, y, f, r, n)))
+        fail("a form reads back as other tracks");
+    /* What was read is written as the same bytes. */
+    size = *len;
+    struct buffer *same = make(other);
+    ASK(form_write, x->bytes, x->size, 0, size, y->bytes, y->size, 0, size, same->bytes, other, again);
+    if (no || *again != other || memcmp(same->bytes, form->bytes, other))
+        fail("a form that was read is written as another");
+    changed(same, 0, other);
 }
 
 int main(int argc, char **argv)
 {
-    unsigned long calls = argc > 1 ? strtoul(argv[1], NULL, 10) : 1000000, done = 0, refused = 0, kinds = 0,
+    unsigned long turns = argc > 1 ? strtoul(argv[1], NULL, 10) : 1000000, done = 0, refused = 0, kinds = 0,
                   lacking = 0;
     state = argc > 2 ? strtoull(argv[2], NULL, 10) : 1;
     state = state * 0x9E3779B97F4A7C15u + 1;
-    if (argc > 3 && strcmp(argv[3], "exact") == 0)
-        guard = 0;
-    for (unsigned long i = 0; i < calls; i++) {
+    exact = argc > 3 && strcmp(argv[3], "exact") == 0;
+    pages();
+    signal(SIGSEGV, fault);
+    signal(SIGBUS, fault);
+    for (turn = 0; turn < turns; turn++) {
         size_t w = 1 + below(2);
         switch (below(7)) {
         case 0: letters_and_words(); break;
@@ -395,6 +500,7 @@ int main(int argc, char **argv)
         case 5: streams(w); break;
         default: forms();
         }
+        settle();
     }
     for (int i = 0; i < CALLS && counted[i].name; i++) {
         kinds++;

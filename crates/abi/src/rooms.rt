@@ -1,27 +1,28 @@
 // The sizes that a caller needs before a call, and the version.
 use codes::units::Chars;
+use codes::units::TRAILING;
 use forms::inner::numbers::spelt_size;
 ghost use mathlib.Core.Path.{_≡_};
 ghost use Prim.Native.Nat.{_+_, _-_, _*_, _^_, min};
 ghost use lib.ListN.{length};
-ghost use Rattle.codes.specs.Codes.{up};
+ghost use Rattle.codes.specs.Codes.{up, trailing};
 ghost use Rattle.forms.specs.Forms.{formSize};
 ghost use Rattle.forms.specs.Numbers.{spelt};
 
 // The bytes of a store of n bases.
 #[no_mangle]
 pub extern "C" fn tsiv_bases_room(n: usize) -> usize
-    ensures { λ r. ⌜ r ≡ up 2 n + 48 ⌝ }
+    ensures { λ r. ⌜ r ≡ up 2 n + trailing ⌝ }
 {
-    Chars::new(n).bytes_as_bases().count() + 48
+    Chars::new(n).bytes_as_bases().count() + TRAILING
 }
 
 // The bytes of a store of n flags.
 #[no_mangle]
 pub extern "C" fn tsiv_flags_room(n: usize) -> usize
-    ensures { λ r. ⌜ r ≡ up 1 n + 48 ⌝ }
+    ensures { λ r. ⌜ r ≡ up 1 n + trailing ⌝ }
 {
-    Chars::new(n).bytes_as_flags().count() + 48
+    Chars::new(n).bytes_as_flags().count() + TRAILING
 }
 
 // The bytes that n itself takes in a form.

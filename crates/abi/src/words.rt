@@ -12,14 +12,16 @@ ghost use Rattle.given.specs.Face.{said};
 
 #[no_mangle]
 pub extern "C" fn tsiv_pack_kmer_lossy(letters: &[u8], to: &mut u64) -> u32
-    ensures { λ r. ⌜ said r (now (to .exit)) ≡ answer (first (badWord 0 32 (length (now (letters .entry))) ∷ [])) (word 2 (map lossy (now (letters .entry)))) 0 ⌝ }
+    ensures { λ r. ⌜ said r (now (to .exit))
+        ≡ answer (first (badWord 0 32 (length (now (letters .entry))) ∷ [])) (word 2 (map lossy (now (letters .entry)))) 0 ⌝ }
 {
     words::pack_kmer_lossy(letters, to)
 }
 
 #[no_mangle]
 pub extern "C" fn tsiv_pack_kmer_u128_lossy(letters: &[u8], low: &mut u64, high: &mut u64) -> u32
-    ensures { λ r. ⌜ said r (now (low .exit), now (high .exit)) ≡ answer (first (badWord 0 64 (length (now (letters .entry))) ∷ [])) (halves (word 2 (map lossy (now (letters .entry))))) (halves 0) ⌝ }
+    ensures { λ r. ⌜ said r (now (low .exit), now (high .exit))
+        ≡ answer (first (badWord 0 64 (length (now (letters .entry))) ∷ [])) (halves (word 2 (map lossy (now (letters .entry))))) (halves 0) ⌝ }
 {
     words::pack_kmer_u128_lossy(letters, low, high)
 }
@@ -27,7 +29,8 @@ pub extern "C" fn tsiv_pack_kmer_u128_lossy(letters: &[u8], low: &mut u64, high:
 #[no_mangle]
 pub extern "C" fn tsiv_unpack_kmer(word: u64, k: usize, out: &mut [u8]) -> u32
     ensures number { λ r. ⌜ r ≡ numberOf (first (badWord 0 32 k ∷ noRoom (length (now (out .entry))) k ∷ [])) ⌝ }
-    ensures bytes { λ _. ⌜ now (out .exit) ≡ ifDone (first (badWord 0 32 k ∷ noRoom (length (now (out .entry))) k ∷ [])) (map letter (charsOf 2 k word) ++ drop k (now (out .entry))) (now (out .entry)) ⌝ }
+    ensures bytes { λ _. ⌜ now (out .exit) ≡ ifDone (first (badWord 0 32 k ∷ noRoom (length (now (out .entry))) k ∷ []))
+        (map letter (charsOf 2 k word) ++ drop k (now (out .entry))) (now (out .entry)) ⌝ }
 {
     words::unpack_kmer(word, k, out)
 }
@@ -35,7 +38,8 @@ pub extern "C" fn tsiv_unpack_kmer(word: u64, k: usize, out: &mut [u8]) -> u32
 #[no_mangle]
 pub extern "C" fn tsiv_unpack_kmer_u128(low: u64, high: u64, k: usize, out: &mut [u8]) -> u32
     ensures number { λ r. ⌜ r ≡ numberOf (first (badWord 0 64 k ∷ noRoom (length (now (out .entry))) k ∷ [])) ⌝ }
-    ensures bytes { λ _. ⌜ now (out .exit) ≡ ifDone (first (badWord 0 64 k ∷ noRoom (length (now (out .entry))) k ∷ [])) (map letter (charsOf 2 k (high * 2 ^ 64 + low)) ++ drop k (now (out .entry))) (now (out .entry)) ⌝ }
+    ensures bytes { λ _. ⌜ now (out .exit) ≡ ifDone (first (badWord 0 64 k ∷ noRoom (length (now (out .entry))) k ∷ []))
+        (map letter (charsOf 2 k (high * 2 ^ 64 + low)) ++ drop k (now (out .entry))) (now (out .entry)) ⌝ }
 {
     words::unpack_kmer_u128(low, high, k, out)
 }
@@ -55,7 +59,8 @@ pub extern "C" fn tsiv_revcomp_u128(
     to_low: &mut u64,
     to_high: &mut u64,
 ) -> u32
-    ensures { λ r. ⌜ said r (now («to_low» .exit), now («to_high» .exit)) ≡ answer (first (badWord 1 64 len ∷ [])) (halves (flip 2 (complement 2) len (high * 2 ^ 64 + low))) (halves 0) ⌝ }
+    ensures { λ r. ⌜ said r (now («to_low» .exit), now («to_high» .exit))
+        ≡ answer (first (badWord 1 64 len ∷ [])) (halves (flip 2 (complement 2) len (high * 2 ^ 64 + low))) (halves 0) ⌝ }
 {
     words::revcomp_u128(low, high, len, to_low, to_high)
 }
@@ -75,7 +80,8 @@ pub extern "C" fn tsiv_rev_u128(
     to_low: &mut u64,
     to_high: &mut u64,
 ) -> u32
-    ensures { λ r. ⌜ said r (now («to_low» .exit), now («to_high» .exit)) ≡ answer (first (badWord 1 128 len ∷ [])) (halves (flip 1 (complement 1) len (high * 2 ^ 64 + low))) (halves 0) ⌝ }
+    ensures { λ r. ⌜ said r (now («to_low» .exit), now («to_high» .exit))
+        ≡ answer (first (badWord 1 128 len ∷ [])) (halves (flip 1 (complement 1) len (high * 2 ^ 64 + low))) (halves 0) ⌝ }
 {
     words::rev_u128(low, high, len, to_low, to_high)
 }

@@ -31,7 +31,7 @@ strict-out x h l = rw (place-out capitals x h, place-out smalls x l)
 pub lossy-lt : (x : ℕ) → lossy x < 2 ^ 2
 lossy-lt x = omega arith
 
-pick-lt : (t : Bool) (x y m : ℕ) → x < m → y < m → pick t x y < m
+pub pick-lt : (t : Bool) (x y m : ℕ) → x < m → y < m → pick t x y < m
 pick-lt true x y m h l = h
 pick-lt false x y m h l = l
 

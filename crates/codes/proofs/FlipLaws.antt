@@ -14,8 +14,8 @@ use Rattle.codes.proofs.WordLaws.{flip-from, flip-pair}
 
 module _ {w : ℕ} (W : IsWidth w) where
   -- n characters of m bytes
-  pub flip-low : (m n x : ℕ) → w * n ≤ 8 * m → flip w (complement w) (8 * m / w) x / 2 ^ (8 * m - w * n) ≡ flip w (complement w) n x
-  flip-low m n x l =
+  pub flip-shr : (m n x : ℕ) → w * n ≤ 8 * m → flip w (complement w) (8 * m / w) x / 2 ^ (8 * m - w * n) ≡ flip w (complement w) n x
+  flip-shr m n x l =
       flip-from w (complement w) (complement-fits w) (8 * m / w) n (8 * m - w * n) x
       (le-of-mul-le-mul-left (subst (λ (b : ℕ). w * n ≤ b) (sym (whole W m)) l) (width-pos W))
       (sym (mul-sub w (8 * m / w) n ∙ ap (λ (b : ℕ). b - w * n) (whole W m)))
@@ -26,9 +26,9 @@ module _ {w : ℕ} (W : IsWidth w) where
       (mul-add w (64 / w) (64 / w) ∙ ap (λ (b : ℕ). b + b) (whole W 8) ∙ sym (whole W 16))
 
   -- n characters of two halves: each half is flipped, and they change places
-  pub flip-low-pair : (n lo hi : ℕ) → lo < 2 ^ 64 → w * n ≤ 128
+  pub flip-shr-pair : (n lo hi : ℕ) → lo < 2 ^ 64 → w * n ≤ 128
       → (flip w (complement w) (64 / w) lo * 2 ^ 64 + flip w (complement w) (64 / w) hi) / 2 ^ (128 - w * n) ≡ flip w (complement w) n (hi * 2 ^ 64 + lo)
-  flip-low-pair n lo hi h l = ap (λ (y : ℕ). y / 2 ^ (128 - w * n)) (sym both) ∙ flip-low 16 n (hi * 2 ^ 64 + lo) l
+  flip-shr-pair n lo hi h l = ap (λ (y : ℕ). y / 2 ^ (128 - w * n)) (sym both) ∙ flip-shr 16 n (hi * 2 ^ 64 + lo) l
     where
       both : flip w (complement w) (128 / w) (hi * 2 ^ 64 + lo) ≡ flip w (complement w) (64 / w) lo * 2 ^ 64 + flip w (complement w) (64 / w) hi
       both =

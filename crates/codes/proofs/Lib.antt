@@ -11,6 +11,7 @@ pub mod Pairs
 pub mod FlipLaws
 pub mod FieldLaws
 pub mod Turns
-pub mod ZeroLaws
+pub mod MadeLaws
+pub mod PackedLaws
 pub mod Permitted
 pub mod Decided

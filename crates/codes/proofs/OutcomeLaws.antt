@@ -63,7 +63,7 @@ first-both ts us e = both (first ts) (first us) (sym (first-append ts us) ∙ e)
     both Done p e = (refl, e)
     both (Refused r) p e = let z : _≡_ {A = ℕ} 0 1 = cc in absurd (omega arith)
 
-or-true : (b : Bool) → (b || true) ≡ true
+pub or-true : (b : Bool) → (b || true) ≡ true
 or-true true = refl
 or-true false = refl
 

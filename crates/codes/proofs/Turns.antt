@@ -1,4 +1,4 @@
--- One turn of the loops that pack and unpack a word, and what a second part adds to what a first part wrote.
+-- One turn of the loops that pack and unpack a word; and a list that is written over another in parts, from the front or into a part that is lent.
 -- Assumes nothing.
 use mathlib.Core.Path.{_≡_, sym, ap, ap₂, _∙_}
 use mathlib.Core.List.{List, [], _∷_, _++_, map, map-append, append-nil, append-assoc}
@@ -58,19 +58,30 @@ unpack-turn w f x old i out rest l er eo = record { rest-is = rw (er, add-one i)
         ∙ sym (append-snoc done a (drop (suc i) old))
         ∙ ap₂ (λ (p q : List ℕ). p ++ q) (sym (ap (map f) (charsOf-snoc w i x) ∙ map-append f (charsOf w i x) (x / 2 ^ (w * i) % 2 ^ w ∷ []))) (ap (λ (k : ℕ). drop k old) (sym (add-one i)))
 
+-- a is written at the front of old, and then b behind it
+pub put-on : (i k : ℕ) (a b old out out′ : List ℕ) → length a ≡ i → out ≡ a ++ drop i old → out′ ≡ take i out ++ (b ++ drop (i + k) out) → out′ ≡ (a ++ b) ++ drop (i + k) old
+put-on i k a b old out out′ l e e′ =
+    e′
+    ∙ ap₂ (λ (p q : List ℕ). p ++ (b ++ q)) (ap (take i) e ∙ take-at a (drop i old) i l) rest
+    ∙ sym (append-assoc a b (drop (i + k) old))
+  where
+    rest : drop (i + k) out ≡ drop (i + k) old
+    rest = sym (drop-drop k i out) ∙ ap (λ (l : List ℕ). drop k (drop i l)) e ∙ ap (drop k) (drop-at a (drop i old) i l) ∙ drop-drop k i old
+
+-- b is written at the front of a part that was lent from n on and is back
+pub lent-on : (n m : ℕ) (b old r : List ℕ) → r ≡ b ++ drop m (take (length old - n) (drop n old))
+    → take n old ++ (r ++ drop (length old - n) (drop n old)) ≡ take n old ++ (b ++ drop (n + m) old)
+lent-on n m b old r e =
+    ap (λ (l : List ℕ). take n old ++ l)
+    (ap₂ (λ (p q : List ℕ). p ++ q) (e ∙ ap (λ (l : List ℕ). b ++ l) part) (drop-of-length-le (drop n old) short) ∙ append-nil (b ++ drop (n + m) old))
+  where
+    short : length (drop n old) ≤ length old - n
+    short = le-of-eq (length-drop n old)
+
+    part : drop m (take (length old - n) (drop n old)) ≡ drop (n + m) old
+    part = ap (drop m) (take-all (length old - n) (drop n old) short) ∙ drop-drop m n old
+
 -- a is written at the front of old; b is then written at the front of the rest, which was lent from n on and is back
 pub written-on : (n m : ℕ) (a b old l r : List ℕ) → length a ≡ n → l ≡ a ++ drop n old → r ≡ b ++ drop m (take (length l - n) (drop n l))
     → take n l ++ (r ++ drop (length l - n) (drop n l)) ≡ (a ++ b) ++ drop (n + m) old
-written-on n m a b old l r ea el er =
-    ap₂ (λ (p q : List ℕ). p ++ q) (ap (take n) el ∙ take-at a (drop n old) n ea)
-    (ap₂ (λ (p q : List ℕ). p ++ q) second (drop-of-length-le (drop n l) short) ∙ append-nil (b ++ drop (n + m) old))
-    ∙ sym (append-assoc a b (drop (n + m) old))
-  where
-    short : length (drop n l) ≤ length l - n
-    short = le-of-eq (length-drop n l)
-
-    rest : drop n l ≡ drop n old
-    rest = ap (drop n) el ∙ drop-at a (drop n old) n ea
-
-    second : r ≡ b ++ drop (n + m) old
-    second = er ∙ ap (λ (p : List ℕ). b ++ drop m p) (take-all (length l - n) (drop n l) short ∙ rest) ∙ ap (λ (p : List ℕ). b ++ p) (drop-drop m n old)
+written-on n m a b old l r ea el er = put-on n m a b old l _ ea el (lent-on n m b l r er)

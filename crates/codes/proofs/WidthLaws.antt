@@ -11,7 +11,7 @@ use lib.Dec.{ltb, lit<, lit≤}
 use lib.Arith.{digits-div}
 use lib.Pow.{shl-exact}
 use borrow.Author.Tests.{lt-ltb, le-ltb}
-use Rattle.codes.specs.Codes.{per, up, IsWidth}
+use Rattle.codes.specs.Codes.{per, up, trailing, IsWidth}
 
 -- one order or the other
 pub below-or {ℓ} : {X : Type ℓ} (a b : ℕ) → (a < b → X) → (b ≤ a → X) → X
@@ -84,8 +84,8 @@ whole {w} W m =
     ap (λ (x : ℕ). w * (x / w)) e ∙ ap (λ (x : ℕ). w * x) (mul-div-cancel-left (per w * m) (width-pos W)) ∙ sym e
 
 -- a product less 48 of its factor
-pub less-48 : (m p : ℕ) → 48 ≤ m → m * p ≡ (m - 48) * p + 48 * p
-less-48 m p h = ap (λ (x : ℕ). x * p) (omega arith) ∙ add-mul (m - 48) 48 p
+pub less-trailing : (m p : ℕ) → trailing ≤ m → m * p ≡ (m - trailing) * p + trailing * p
+less-trailing m p h = ap (λ (x : ℕ). x * p) (omega arith) ∙ add-mul (m - trailing) trailing p
 
 -- tests that hold together are one
 pub ltb-eq : (a b c d : ℕ) → (a < b → c < d) → (b ≤ a → d ≤ c) → ltb a b ≡ ltb c d

@@ -26,6 +26,10 @@ pub record IsWidth (w : ℕ) : Type 0 where
 abbrev pub up : ℕ → ℕ → ℕ
 up w n = (n + (per w - 1)) / per w
 
+-- the bytes that are lent behind the last character of a view or a store
+abbrev pub trailing : ℕ
+trailing = 48
+
 -- character i stands in byte i / C8, at bit w * (i mod C8), low bits first
 unfoldable pub charAt : ℕ → List ℕ → ℕ → ℕ
 charAt w bytes i = getD bytes (i / per w) 0 / 2 ^ (w * (i % per w)) % 2 ^ w

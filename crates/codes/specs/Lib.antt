@@ -2,5 +2,5 @@ pub mod Codes
 pub mod Refusals
 pub mod Words
 pub mod Answers
-pub mod Zeros
+pub mod Made
 pub mod Windows

@@ -4,7 +4,7 @@ use mathlib.Core.Bool.{Bool, true, false, _&&_, _||_, not}
 use mathlib.Core.List.{List, [], _∷_}
 use Prim.Native.Nat.{ℕ, _+_, _*_, _^_}
 use lib.Dec.{leb, ltb}
-use Rattle.codes.specs.Codes.{per, up, pick, strict, placeIn, capitals}
+use Rattle.codes.specs.Codes.{per, up, trailing, pick, strict, placeIn, capitals}
 use Rattle.codes.specs.declared.refusals.Refusal.{Refusal}
 use Rattle.codes.specs.declared.refusals.Refusal.the-variants.{TooLong, BadStore, BadView, BadRange, BadWord, BadLetter, BadForm, BadStream, NoRoom}
 use Rattle.codes.specs.declared.refusals.Outcome.{Outcome}
@@ -35,11 +35,11 @@ tooLong n = (ltb (2 ^ 28) n, TooLong)
 
 -- the bytes of a store's length and 48 more exceed its buffer of n bytes
 abbrev pub badStore : ℕ → ℕ → ℕ → Test
-badStore w n len = (ltb n (up w len + 48), BadStore)
+badStore w n len = (ltb n (up w len + trailing), BadStore)
 
 -- a view's characters and 48 bytes behind exceed its n bytes, in exact arithmetic
 abbrev pub badView : ℕ → ℕ → ℕ → ℕ → Test
-badView w n o len = (ltb (n * per w) (o + len + 48 * per w), BadView)
+badView w n o len = (ltb (n * per w) (o + len + trailing * per w), BadView)
 
 -- an index is not below the length
 abbrev pub badIndex : ℕ → ℕ → Test

@@ -3,6 +3,9 @@ use crate::inner::counts::bytes_for;
 ghost use mathlib.Core.Path.{_≡_};
 ghost use Rattle.codes.specs.Codes.{up};
 
+// The bytes that are lent behind the last character of a view or a store.
+pub const TRAILING: usize = 48;
+
 // A count of characters, or the place of one.
 pub struct Chars(usize);
 

@@ -2,8 +2,7 @@
 use crate::inner::flips::flipped_u64;
 use crate::inner::flips::flipped_u128;
 use crate::inner::packing::pack;
-use crate::inner::packing::unpack;
-use crate::inner::packing::unpack_pair;
+use crate::inner::packing::unpack_up_to;
 use crate::refusals::Outcome;
 use crate::refusals::Refusal;
 use crate::units::Chars;
@@ -62,15 +61,7 @@ pub fn unpack_kmer(word: u64, k: Chars, out: &mut [u8]) -> Outcome
     ensures outcome { λ r. ⌜ r ≡ first (badWord 0 32 (k .0) ∷ noRoom (length (now (out .entry))) (k .0) ∷ []) ⌝ }
     ensures bytes { λ r. ⌜ now (out .exit) ≡ ifDone r (map letter (charsOf 2 (k .0) word) ++ drop (k .0) (now (out .entry))) (now (out .entry)) ⌝ }
 {
-    let n = k.count();
-    if 32 < n {
-        return Outcome::Refused(Refusal::BadWord);
-    }
-    if out.len() < n {
-        return Outcome::Refused(Refusal::NoRoom);
-    }
-    unpack(word, n, out);
-    Outcome::Done
+    unpack_up_to(word, 0, k, 32, out)
 }
 
 // Writes the k low bases of a word of two halves as capital letters, k from 0 to 64.
@@ -79,15 +70,7 @@ pub fn unpack_kmer_u128(low: u64, high: u64, k: Chars, out: &mut [u8]) -> Outcom
     ensures bytes { λ r. ⌜ now (out .exit) ≡
         ifDone r (map letter (charsOf 2 (k .0) (high * 2 ^ 64 + low)) ++ drop (k .0) (now (out .entry))) (now (out .entry)) ⌝ }
 {
-    let n = k.count();
-    if 64 < n {
-        return Outcome::Refused(Refusal::BadWord);
-    }
-    if out.len() < n {
-        return Outcome::Refused(Refusal::NoRoom);
-    }
-    unpack_pair(low, high, n, out);
-    Outcome::Done
+    unpack_up_to(low, high, k, 64, out)
 }
 
 // The reverse complement of the len low bases of a word, len from 1 to 32.

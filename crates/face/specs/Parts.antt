@@ -8,7 +8,7 @@ use Rattle.codes.specs.Codes.{per, pick}
 use Rattle.codes.specs.Refusals.{Answer, answer, first}
 use Rattle.fields.specs.Fields.{viewTests, sliceTests, normalPart}
 use Rattle.order.specs.Order.{pairOutcome, pairOrder, isSecond}
-use Rattle.given.specs.Face.{Part, none}
+use Rattle.given.specs.Face.{Part, noPart}
 
 -- the normalised part of a view
 abbrev pub partOf : ℕ → List ℕ → ℕ → ℕ → Part
@@ -16,17 +16,18 @@ partOf w bs o len = (o / per w, length (normalPart w bs o len), o % per w, len)
 
 -- a view is made over all its bytes
 unfoldable pub madePart : ℕ → List ℕ → ℕ → ℕ → Answer Part
-madePart w bs o len = answer (first (viewTests w (length bs) o len)) (0, length bs, o, len) none
+madePart w bs o len = answer (first (viewTests w (length bs) o len)) (0, length bs, o, len) noPart
 
 -- slicing keeps the buffer
 unfoldable pub slicedPart : ℕ → List ℕ → ℕ → ℕ → ℕ → ℕ → Answer Part
 slicedPart w bs o len start end =
-    answer (first (sliceTests w (length bs) o len start end)) (0, length bs, o + start, end - start) none
+    answer (first (sliceTests w (length bs) o len start end)) (0, length bs, o + start, end - start) noPart
 
 unfoldable pub normalisedPart : ℕ → List ℕ → ℕ → ℕ → Answer Part
-normalisedPart w bs o len = answer (first (viewTests w (length bs) o len)) (partOf w bs o len) none
+normalisedPart w bs o len = answer (first (viewTests w (length bs) o len)) (partOf w bs o len) noPart
 
 -- whether the second view comes first, and the normalised part of the one that does
 unfoldable pub leastPart : ℕ → List ℕ → ℕ → ℕ → List ℕ → ℕ → ℕ → Answer (Bool × Part)
 leastPart w xs ao al bs bo bl =
-    answer (pairOutcome w xs ao al bs bo bl) (pick (isSecond w xs ao al bs bo bl (pairOrder w xs ao al bs bo bl)) (true, partOf w bs bo bl) (false, partOf w xs ao al)) (false, none)
+    answer (pairOutcome w xs ao al bs bo bl)
+    (pick (isSecond (pairOrder w xs ao al bs bo bl)) (true, partOf w bs bo bl) (false, partOf w xs ao al)) (false, noPart)

@@ -8,10 +8,9 @@ use native.Mathlib.Omega.{arith}
 use borrow.Author.Tests.{ltb-true, ltb-false, lt-ltb, le-ltb}
 use lib.Dec.{eqb}
 use lib.ListN.{length, take, getD, length-append}
-use Rattle.codes.specs.Codes.{pick, chars}
+use Rattle.codes.specs.Codes.{pick}
 use Rattle.fasta.specs.Report.{refusedText, isHeader, totalOf}
-use Rattle.rows.specs.Columns.{setFlags, strandOf}
-use Rattle.fasta.specs.Records.{opened, ordinal, rowFrom, closed}
+use Rattle.fasta.specs.Records.{opened, ordinal, ambiguousIn, strandIn, rowFrom, closed}
 use Rattle.fasta.specs.Steps.{Move, move, stepped, tooShort, seen, lineEnd, endsLine, lineUsed, begun, inHeader, inLine, atLine, next, ending, lastLines}
 use Rattle.fasta.specs.Buffers.{lineTrack, trackAfter, otherAfter}
 use Rattle.fasta.specs.declared.reader.Record.{Record}
@@ -30,7 +29,7 @@ pub record Bounded (part : List ℕ) (m : Move) : Type 0 where
 
 pub row-from-length : (k : Record) (bases flags : List ℕ) → length (rowFrom k bases flags) ≤ 65
 unfolding rowFrom
-row-from-length k bases flags = row-length (ordinal k) (k .count) (setFlags (chars 1 flags 0 (k .count))) (strandOf (chars 2 bases 0 (k .count)))
+row-from-length k bases flags = row-length (ordinal k) (k .count) (ambiguousIn k flags) (strandIn k bases)
 
 module _ (part : List ℕ) where
   line-some : 0 < length part → 0 < lineUsed part
@@ -141,7 +140,7 @@ pub closed-length : (k : Record) (bases flags : List ℕ) → length (closed k b
 unfolding closed
 closed-length k bases flags = omega (arith, length-append (rowFrom k bases flags) (totalOf (ordinal k)), row-from-length k bases flags, total-length (ordinal k))
 
-ending-length : (reader : Reader) (bases flags : List ℕ) → length (ending reader bases flags) ≤ 92
+pub ending-length : (reader : Reader) (bases flags : List ℕ) → length (ending reader bases flags) ≤ 92
 ending-length Reader.Start bases flags = omega (arith, total-length 0)
 ending-length (Reader.Header i) bases flags = closed-length (opened i) bases flags
 ending-length (Reader.Fresh k) bases flags = closed-length k bases flags

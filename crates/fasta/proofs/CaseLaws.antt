@@ -7,10 +7,9 @@ use Prim.Native.Nat.{ℕ, _≤_, _<_}
 use native.Mathlib.Omega.{arith}
 use borrow.Author.Tests.{eq-eqb, ne-eqb, lt-ltb, le-ltb}
 use lib.ListN.{length, getD}
-use Rattle.codes.specs.Codes.{chars}
 use Rattle.fasta.specs.Report.{isHeader, rowOf, totalOf}
-use Rattle.rows.specs.Columns.{Put, setFlags, strandOf}
-use Rattle.fasta.specs.Records.{ordinal, rowFrom, closed, marked}
+use Rattle.rows.specs.Columns.{Put}
+use Rattle.fasta.specs.Records.{ordinal, ambiguousIn, strandIn, rowFrom, closed, marked}
 use Rattle.fasta.specs.Steps.{Move, stepped, seen, inLine, atLine, moved, next, ending, lastLines}
 use Rattle.fasta.specs.Buffers.{onto, lineTrack, trackAfter, otherAfter, endMarked, otherAtEnd}
 use Rattle.fasta.specs.declared.reader.Record.{Record}
@@ -29,15 +28,15 @@ next-some reader [] bases flags h = absurd (omega arith)
 next-some reader (b ∷ bs) bases flags h = refl
 
 -- what a move and the buffers after it are to the clauses of a step
-abbrev Clauses : Move → List ℕ → List ℕ → List ℕ → List ℕ → Stepped → List ℕ → List ℕ → List ℕ → List ℕ → Type 0
+abbrev pub Clauses : Move → List ℕ → List ℕ → List ℕ → List ℕ → Stepped → List ℕ → List ℕ → List ℕ → List ℕ → Type 0
 Clauses m bs fs os out r bases′ flags′ other′ out′ = (r ≡ stepped m) × ((bases′ ≡ bs) × ((flags′ ≡ fs) × ((other′ ≡ os) × (out′ ≡ onto (m .written) out))))
 
 module _ (part bases flags other out : List ℕ) (r : Stepped) (bases′ flags′ other′ out′ : List ℕ) where
   -- a step that looks at p
-  abbrev Seeing : Reader → List ℕ → Type 0
+  abbrev pub Seeing : Reader → List ℕ → Type 0
   Seeing reader p = Clauses (next reader p bases flags) (trackAfter 2 reader p bases) (trackAfter 1 reader p flags) (otherAfter reader p bases other) out r bases′ flags′ other′ out′
 
-  abbrev Moving : Reader → Type 0
+  abbrev pub Moving : Reader → Type 0
   Moving x = Clauses (moved x part bases flags) (trackAfter 2 x part bases) (trackAfter 1 x part flags) (otherAfter x part bases other) out r bases′ flags′ other′ out′
 
   -- with bytes to read and room to write, it is what is done in its state
@@ -45,7 +44,8 @@ module _ (part bases flags other out : List ℕ) (r : Stepped) (bases′ flags�
   in-state reader x e h m f =
       subst (λ (y : Reader). Seeing y (seen part out)) (sym e)
       (subst (Seeing x) (sym (seen-all part out m))
-      (subst (λ (v : Move). Clauses v (trackAfter 2 x part bases) (trackAfter 1 x part flags) (otherAfter x part bases other) out r bases′ flags′ other′ out′) (sym (next-some x part bases flags h)) f))
+      (subst (λ (v : Move). Clauses v (trackAfter 2 x part bases) (trackAfter 1 x part flags) (otherAfter x part bases other) out r bases′ flags′ other′ out′)
+      (sym (next-some x part bases flags h)) f))
 
 -- with nothing to look at, all stays
 pub idle : (reader : Reader) (part bases flags other out : List ℕ) → seen part out ≡ []
@@ -59,15 +59,16 @@ idle reader part bases flags other out e =
 module _ (k : Record) (part bases flags other out : List ℕ) where
   abbrev AtLine : Stepped → List ℕ → List ℕ → List ℕ → List ℕ → Type 0
   AtLine r bases′ flags′ other′ out′ =
-      Clauses (atLine k part bases flags) (trackAfter 2 (Reader.Fresh k) part bases) (trackAfter 1 (Reader.Fresh k) part flags) (otherAfter (Reader.Fresh k) part bases other) out r bases′ flags′ other′ out′
+      let x : Reader = Reader.Fresh k in
+      Clauses (atLine k part bases flags) (trackAfter 2 x part bases) (trackAfter 1 x part flags) (otherAfter x part bases other) out r bases′ flags′ other′ out′
 
-  row-put : (i n : ℕ) (out′ : List ℕ) → i ≡ ordinal k → Put out 0 (rowOf i (k .count) (setFlags (chars 1 flags 0 (k .count))) (strandOf (chars 2 bases 0 (k .count)))) out′ n → Put out 0 (rowFrom k bases flags) out′ n
+  row-put : (i n : ℕ) (out′ : List ℕ) → i ≡ ordinal k → Put out 0 (rowOf i (k .count) (ambiguousIn k flags) (strandIn k bases)) out′ n → Put out 0 (rowFrom k bases flags) out′ n
   unfolding rowFrom
-  row-put i n out′ e p = put-as (ap (λ (x : ℕ). rowOf x (k .count) (setFlags (chars 1 flags 0 (k .count))) (strandOf (chars 2 bases 0 (k .count)))) e) p
+  row-put i n out′ e p = put-as (ap (λ (x : ℕ). rowOf x (k .count) (ambiguousIn k flags) (strandIn k bases)) e) p
 
   module _ (h : 0 < length part) where
     pub closes : (i n : ℕ) (other′ out′ : List ℕ) → getD part 0 0 ≡ 62 → 96 ≤ length out → i ≡ ordinal k
-        → Put out 0 (rowOf i (k .count) (setFlags (chars 1 flags 0 (k .count))) (strandOf (chars 2 bases 0 (k .count)))) out′ n → other′ ≡ marked k bases other
+        → Put out 0 (rowOf i (k .count) (ambiguousIn k flags) (strandIn k bases)) out′ n → other′ ≡ marked k bases other
         → AtLine (record { reader = Reader.Header i; used = 1; wrote = n }) bases flags other′ out′
     unfolding atLine trackAfter otherAfter
     closes i n other′ out′ b m e p o =
@@ -88,16 +89,19 @@ module _ (k : Record) (part bases flags other out : List ℕ) where
 -- the end of the input
 module _ (k : Record) (bases flags out : List ℕ) where
   pub closed-put : (i m n : ℕ) (out″ out′ : List ℕ) → i ≡ ordinal k
-      → Put out 0 (rowOf i (k .count) (setFlags (chars 1 flags 0 (k .count))) (strandOf (chars 2 bases 0 (k .count)))) out″ m → Put out″ m (totalOf i) out′ n → Put out 0 (closed k bases flags) out′ n
+      → Put out 0 (rowOf i (k .count) (ambiguousIn k flags) (strandIn k bases)) out″ m → Put out″ m (totalOf i) out′ n → Put out 0 (closed k bases flags) out′ n
   unfolding closed rowFrom
   closed-put i m n out″ out′ e p q =
-      subst (λ (x : ℕ). Put out 0 (rowOf x (k .count) (setFlags (chars 1 flags 0 (k .count))) (strandOf (chars 2 bases 0 (k .count))) ++ totalOf x) out′ n) e (put-then p q)
+      subst (λ (x : ℕ). Put out 0 (rowOf x (k .count) (ambiguousIn k flags) (strandIn k bases) ++ totalOf x) out′ n) e (put-then p q)
 
 module _ (bases flags other out : List ℕ) (r : ℕ) (other′ out′ : List ℕ) where
-  abbrev Ending : Reader → Type 0
+  abbrev pub Ending : Reader → Type 0
   Ending reader = (r ≡ length (lastLines reader bases flags out)) × ((other′ ≡ otherAtEnd reader bases other out) × (out′ ≡ onto (lastLines reader bases flags out) out))
 
-  pub ends-in : (reader x : Reader) → reader ≡ x → 96 ≤ length out → (r ≡ length (ending x bases flags)) × ((other′ ≡ endMarked x bases other) × (out′ ≡ onto (ending x bases flags) out)) → Ending reader
+  abbrev pub Closing : Reader → Type 0
+  Closing x = (r ≡ length (ending x bases flags)) × ((other′ ≡ endMarked x bases other) × (out′ ≡ onto (ending x bases flags) out))
+
+  pub ends-in : (reader x : Reader) → reader ≡ x → 96 ≤ length out → Closing x → Ending reader
   unfolding lastLines otherAtEnd
   ends-in reader x e m f = subst Ending (sym e) (rw (le-ltb (length out) 96 m) f)
 

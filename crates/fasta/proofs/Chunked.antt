@@ -13,7 +13,8 @@ use Rattle.fasta.specs.Report.{heading, report}
 use Rattle.fasta.specs.Steps.{Move, tooShort, seen, next, started, lastLines}
 use Rattle.fasta.specs.Buffers.{onto, trackAfter}
 use Rattle.fasta.specs.declared.reader.Reader.{Reader}
-use Rattle.fasta.proofs.Rest.{State, start, rest, recordsBefore, Leads}
+use Rattle.fasta.specs.declared.reader.Reader.the-variants as Reader
+use Rattle.fasta.proofs.Rest.{State, start, ended, rest, recordsBefore, Leads}
 use Rattle.fasta.proofs.Meaning.{Sized, Reads, Onward}
 use Rattle.fasta.proofs.BoundLaws.{next-bounded, track-length}
 use Rattle.fasta.proofs.FinishLaws.{ending-says}
@@ -24,13 +25,15 @@ abbrev pub front : List ℕ → List ℕ → List ℕ
 front written out = take (length written) (onto written out)
 
 -- the calls that read an input, from a reader and its tracks on: each step is given a front part of what is left, of any length, and an out of
--- any; with nothing left, the finish. The last list is what they write, put together.
+-- any; with nothing left, the finish. A run may stop without it where the reader has ended: what is left is not read. The last list is what they
+-- write, put together.
 pub data Calls : Reader → List ℕ → List ℕ → List ℕ → List ℕ → Type 0 where
   finish : {reader : Reader} {bases flags : List ℕ} (out : List ℕ) → 96 ≤ length out → Calls reader bases flags [] (front (lastLines reader bases flags out) out)
   step : {reader : Reader} {bases flags written : List ℕ} (part more out : List ℕ)
       → Calls (next reader (seen part out) bases flags .reader) (trackAfter 2 reader (seen part out) bases) (trackAfter 1 reader (seen part out) flags)
       (drop (next reader (seen part out) bases flags .used) part ++ more) written
       → Calls reader bases flags (part ++ more) (front (next reader (seen part out) bases flags .written) out ++ written)
+  stop : {bases flags : List ℕ} (more : List ℕ) → Calls Reader.Ended bases flags more []
 
 left : (used : ℕ) (part more : List ℕ) → part ++ more ≡ take used part ++ (drop used part ++ more)
 left used part more = ap (λ (x : List ℕ). x ++ more) (sym (take-append-drop used part)) ∙ append-assoc (take used part) (drop used part) more
@@ -50,12 +53,16 @@ module _ (bases flags : List ℕ) (size : Sized bases flags) (reader : Reader) (
   goes true = goes-none
   goes false = (next-bounded reader part bases flags .used, next-onward bases flags size reader part)
 
-sized-after : (bases flags : List ℕ) → Sized bases flags → (reader : Reader) (p : List ℕ) → Sized (trackAfter 2 reader p bases) (trackAfter 1 reader p flags)
+pub sized-after : (bases flags : List ℕ) → Sized bases flags → (reader : Reader) (p : List ℕ) → Sized (trackAfter 2 reader p bases) (trackAfter 1 reader p flags)
 sized-after bases flags size reader p = record { bases = track-length 2 reader p bases ∙ size .bases; flags = track-length 1 reader p flags ∙ size .flags }
 
 last-says : (reader : Reader) (bases flags out : List ℕ) → 96 ≤ length out → (s : State) → Reads reader bases flags s → recordsBefore s + 1 < 2 ^ 64 → lastLines reader bases flags out ≡ rest s []
 unfolding lastLines
 last-says reader bases flags out m s h l = rw (le-ltb (length out) 96 m) (sym (ending-says bases flags reader s h l))
+
+ended-says : (s : State) → s ≡ ended → (more : List ℕ) → [] ≡ rest s more
+unfolding rest
+ended-says s e more = sym (ap (λ (x : State). rest x more) e)
 
 pub calls-say : {reader : Reader} {bases flags input written : List ℕ} → Calls reader bases flags input written → Sized bases flags → (s : State) → Reads reader bases flags s
     → recordsBefore s + length input + 1 < 2 ^ 64 → written ≡ rest s input
@@ -73,6 +80,7 @@ calls-say {reader} {bases} {flags} (step {written} part more out cs) size s h l 
     (omega (arith, n, length-append (drop (m .used) part) more, length-take (m .used) part, length-drop (m .used) part, g .0, leads .counts)))
     ∙ sym (leads .says (drop (m .used) part ++ more))
     ∙ ap (rest s) (sym (left (m .used) part more))
+calls-say (stop more) size s h l = ended-says s h more
 
 -- an input of fewer than 2^64 - 1 bytes has fewer than 2^64 records
 module _ (out bases flags input written : List ℕ) where

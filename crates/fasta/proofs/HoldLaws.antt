@@ -7,14 +7,14 @@ use native.Mathlib.Omega.{arith}
 use borrow.Author.Tests.{ltb-true, ltb-false, lt-ltb, le-ltb}
 use lib.Dec.{ltb}
 use lib.ListN.{length, length-append}
-use Rattle.codes.specs.Codes.{IsWidth, up, chars, code}
-use Rattle.codes.specs.declared.refusals.Outcome.{Outcome}
-use Rattle.codes.specs.declared.refusals.Outcome.the-variants.{Done, Refused}
+use Rattle.codes.specs.Codes.{IsWidth, up, trailing, chars, code}
+use Rattle.codes.specs.Refusals.{ifDone}
+use Rattle.codes.specs.declared.refusals.Outcome.the-variants.{Done}
 use Rattle.codes.proofs.CharLaws.{length-pack}
 use Rattle.codes.proofs.WidthLaws.{width-1, width-2, up-mono, below-or}
 use Rattle.runs.specs.Runs.{written}
-use Rattle.stores.specs.Stores.{pushAscii, outcome, after}
-use Rattle.stores.proofs.CallLaws.{done-after, refused-after}
+use Rattle.stores.specs.Stores.{pushAscii, outcome, still, deed, bufferAfter, after}
+use Rattle.stores.proofs.CallLaws.{by-outcome}
 use Rattle.fasta.specs.Records.{atMost, opened, lengthened}
 use Rattle.fasta.specs.declared.reader.Record.{Record}
 use Rattle.fasta.proofs.Meaning.{Sized, Kept, Holds}
@@ -26,23 +26,17 @@ written-length w bs at cs = length-pack w (length bs) _
 
 -- a push leaves a buffer as long as it was, and as it was where there is nothing to push
 module _ (w : ℕ) (bs : List ℕ) (at : ℕ) where
-  by-outcome : (ls : List ℕ) (X : List ℕ → Type 0) → (Done ≡ outcome w (length bs) at (pushAscii ls) → X (after w bs at (pushAscii ls))) → X bs → X (after w bs at (pushAscii ls))
-  by-outcome ls X f g =
-      cases (outcome w (length bs) at (pushAscii ls)) refl
-    where
-      cases : (o : Outcome) → o ≡ outcome w (length bs) at (pushAscii ls) → X (after w bs at (pushAscii ls))
-      cases Done e = f e
-      cases (Refused r) e = rw (sym (refused-after w bs at (pushAscii ls) r e)) g
-
   pub push-nothing : after w bs at (pushAscii []) ≡ bs
-  push-nothing = by-outcome [] (λ x. x ≡ bs) (λ e. sym (done-after w bs at (pushAscii []) e)) refl
+  unfolding after
+  push-nothing = by-outcome (λ o. bufferAfter w bs (ifDone o still still) ≡ bs) (outcome w (length bs) at (pushAscii [])) (λ e. refl) (λ r e. refl)
 
   pub push-length : (ls : List ℕ) → length (after w bs at (pushAscii ls)) ≡ length bs
+  unfolding after
   push-length [] = ap length push-nothing
-  push-length (l ∷ ls) = by-outcome (l ∷ ls) (λ x. length x ≡ length bs) (λ e. ap length (sym (done-after w bs at (pushAscii (l ∷ ls)) e)) ∙ long) refl
-    where
-      long : length (written w bs at (map (code w) (l ∷ ls))) ≡ length bs
-      long = written-length w bs at (map (code w) (l ∷ ls))
+  push-length (l ∷ ls) =
+      by-outcome (λ o. length (bufferAfter w bs (ifDone o (deed w at (pushAscii (l ∷ ls))) still)) ≡ length bs) (outcome w (length bs) at (pushAscii (l ∷ ls)))
+      (λ e. written-length w bs at (map (code w) (l ∷ ls)))
+      (λ r e. refl)
 
 -- the count of a record that gets more
 pub most-past : (n : ℕ) → 16384 < n → atMost n ≡ 16385
@@ -70,14 +64,14 @@ unfolding chars
 holds-none i bases flags = record { number = refl; long = refl; short = λ l. record { count = refl; bases = refl; flags = refl } }
 
 -- a track of a record that gets more letters, where there is room
-module _ {w : ℕ} (W : IsWidth w) (bytes letters : List ℕ) (count : ℕ) (small : length bytes ≤ 2 ^ 28) (room : up w (count + length letters) + 48 ≤ length bytes) where
+module _ {w : ℕ} (W : IsWidth w) (bytes letters : List ℕ) (count : ℕ) (small : length bytes ≤ 2 ^ 28) (room : up w (count + length letters) + trailing ≤ length bytes) where
   pushed : outcome w (length bytes) count (pushAscii letters) ≡ Done
   unfolding outcome
   pushed =
       rw (
         le-ltb (2 ^ 28) (length bytes) small,
-        le-ltb (length bytes) (up w count + 48) (omega (arith, up-mono W count (count + length letters) (omega arith))),
-        le-ltb (length bytes) (up w (count + length letters) + 48) room,
+        le-ltb (length bytes) (up w count + trailing) (omega (arith, up-mono W count (count + length letters) (omega arith))),
+        le-ltb (length bytes) (up w (count + length letters) + trailing) room,
       )
 
   track-more : (ls : List ℕ) → count ≡ length ls → chars w bytes 0 (length ls) ≡ map (code w) ls

@@ -13,5 +13,8 @@ pub mod LeadLaws
 pub mod CaseLaws
 pub mod StepLaws
 pub mod FinishLaws
+pub mod FeedLaws
+pub mod TurnLaws
 pub mod Chunked
+pub mod Collected
 pub mod Decided

@@ -7,7 +7,7 @@ use native.Mathlib.Nat.{add-zero, mul-le-mul-right, add-mul}
 use native.Mathlib.Omega.{arith}
 use lib.ListN.{length, getD, length-map}
 use lib.Seq.{ext-getD}
-use Rattle.codes.specs.Codes.{IsWidth, per, up, charAt, chars, code}
+use Rattle.codes.specs.Codes.{IsWidth, per, up, trailing, charAt, chars, code}
 use Rattle.codes.specs.declared.refusals.Outcome.the-variants.{Done}
 use Rattle.codes.proofs.CharLaws.{length-chars, getD-chars, chars-append, chars-ext, charAt-lt, charAt-pack}
 use Rattle.codes.proofs.CodeLaws.{code-lt}
@@ -20,13 +20,13 @@ use Rattle.runs.proofs.SpliceLaws.{splice-old, splice-new, splice-lt}
 
 module _ {w : ℕ} (W : IsWidth w) (bs : List ℕ) (at : ℕ) (cs : List ℕ) (fits : Below w cs) (room : up w (at + length cs) ≤ length bs) where
   abbrev stop : ℕ
-  stop = (up w (at + length cs) + 48) * per w
+  stop = (up w (at + length cs) + trailing) * per w
 
   inside : (i : ℕ) → i < at + length cs → (i < length bs * per w) × (i < stop)
   inside i h =
       let a : at + length cs ≤ up w (at + length cs) * per w = up-hi W (at + length cs) in
       let b : up w (at + length cs) * per w ≤ length bs * per w = mul-le-mul-right (per w) room in
-      (omega arith, omega (arith, add-mul (up w (at + length cs)) 48 (per w)))
+      (omega arith, omega (arith, add-mul (up w (at + length cs)) trailing (per w)))
 
   charAt-written : (i : ℕ) → i < at + length cs → charAt w (written w bs at cs) i ≡ splice (charAt w bs) at cs stop i
   unfolding written

@@ -14,7 +14,7 @@ use Rattle.codes.proofs.WidthLaws.{below-or}
 use Rattle.stores.specs.Stores.{pushAscii, after}
 use Rattle.rows.specs.Columns.{decimal, setFlags, strandOf, columns}
 use Rattle.fasta.specs.Report.{ambiguous, strand, row, refusedText, isHeader, body, rowOf}
-use Rattle.fasta.specs.Records.{opened, lengthened, ordinal, rowFrom}
+use Rattle.fasta.specs.Records.{opened, lengthened, ordinal, ambiguousIn, strandIn, rowFrom}
 use Rattle.fasta.specs.Steps.{Move, move, lineEnd, endsLine, lineUsed, begun, inHeader, inLine, atLine, next}
 use Rattle.fasta.specs.Buffers.{lineTrack, trackAfter}
 use Rattle.fasta.specs.declared.reader.Record.{Record}
@@ -32,10 +32,10 @@ use Rattle.fasta.proofs.RowLaws.{body-long}
 from-one : (s₀ : State) (taken : List ℕ) (m : Move) (bases flags : List ℕ) → From s₀ taken m bases flags → (s : State) → s ≡ s₀ → From s taken m bases flags
 from-one s₀ taken m bases flags f s e = subst (λ (x : State). From x taken m bases flags) (sym e) f
 
--- the bytes taken, by what they are
-module _ (part bases flags bases′ flags′ : List ℕ) (reader : Reader) (m : Move) where
-  taking : (taken : List ℕ) → take (m .used) part ≡ taken → Onward reader bases flags taken m bases′ flags′ → Onward reader bases flags (take (m .used) part) m bases′ flags′
-  taking taken e f = subst (λ (x : List ℕ). Onward reader bases flags x m bases′ flags′) (sym e) f
+-- a reader that stands for one state, by what the bytes are that it takes
+goes : (part bases flags : List ℕ) (s₀ : State) (m : Move) (taken : List ℕ) → take (m .used) part ≡ taken → From s₀ taken m bases flags
+    → (s : State) → s ≡ s₀ → From s (take (m .used) part) m bases flags
+goes part bases flags s₀ m taken e f = from-one s₀ (take (m .used) part) m bases flags (subst (λ (x : List ℕ). From s₀ x m bases flags) (sym e) f)
 
 -- a record's row from what is kept of it
 module _ (k : Record) (bases flags : List ℕ) (i : ℕ) (ls : List ℕ) (h : Holds k bases flags i ls) (w : ordinal k ≡ suc i) where
@@ -53,7 +53,7 @@ module _ (k : Record) (bases flags : List ℕ) (i : ℕ) (ls : List ℕ) (h : Ho
   row-long l =
       ap (λ (x : ℕ). rowOf x (length ls) (ambiguous ls) (strand ls)) (sym w)
       ∙ ap (λ (x : List ℕ). decimal (ordinal k) ++ (9 ∷ (x ++ (10 ∷ []))))
-      (sym (body-long (length ls) (ambiguous ls) (strand ls) (many k bases flags i ls h l)) ∙ body-long (k .count) (setFlags (chars 1 flags 0 (k .count))) (strandOf (chars 2 bases 0 (k .count))) l)
+      (sym (body-long (length ls) (ambiguous ls) (strand ls) (many k bases flags i ls h l)) ∙ body-long (k .count) (ambiguousIn k flags) (strandIn k bases) l)
 
   pub row-held : row (suc i) ls ≡ rowFrom k bases flags
   row-held = below-or 16384 (k .count) row-long row-short
@@ -72,11 +72,11 @@ module _ (part bases flags : List ℕ) where
         cases : (t : Bool) → eqb (getD part 0 0) 10 ≡ t → (u : Bool) → eqb (getD part 0 0) 62 ≡ u
             → (let m : Move = pick t (move Reader.Start 1 []) (pick u (move (Reader.Header 0) 1 []) (move Reader.Ended 1 (refusedText ++ (10 ∷ [])))) in
             Onward Reader.Start bases flags (take (m .used) part) m bases flags)
-        cases true e u f = taking part bases flags bases flags Reader.Start (move Reader.Start 1 []) (10 ∷ []) (one 10 (eqb-true _ 10 e)) (from-one start (10 ∷ []) (move Reader.Start 1 []) bases flags (λ l. (start, refl, leads-blank)))
-        cases false e true f = taking part bases flags bases flags Reader.Start (move (Reader.Header 0) 1 []) (62 ∷ []) (one 62 (eqb-true _ 62 f)) (from-one start (62 ∷ []) (move (Reader.Header 0) 1 []) bases flags (λ l. (header 0, refl, leads-open)))
+        cases true e u f = goes part bases flags start (move Reader.Start 1 []) (10 ∷ []) (one 10 (eqb-true _ 10 e)) (λ l. (start, refl, leads-blank))
+        cases false e true f = goes part bases flags start (move (Reader.Header 0) 1 []) (62 ∷ []) (one 62 (eqb-true _ 62 f)) (λ l. (header 0, refl, leads-open))
         cases false e false f =
-            taking part bases flags bases flags Reader.Start (move Reader.Ended 1 (refusedText ++ (10 ∷ []))) (getD part 0 0 ∷ []) (one (getD part 0 0) refl)
-            (from-one start (getD part 0 0 ∷ []) (move Reader.Ended 1 (refusedText ++ (10 ∷ []))) bases flags (λ l. (ended, refl, leads-refused (getD part 0 0) (eqb-false _ 10 e) (eqb-false _ 62 f))))
+            goes part bases flags start (move Reader.Ended 1 (refusedText ++ (10 ∷ []))) (getD part 0 0 ∷ []) (one (getD part 0 0) refl)
+            (λ l. (ended, refl, leads-refused (getD part 0 0) (eqb-false _ 10 e) (eqb-false _ 62 f)))
 
   -- after the report
   ended-onward : Onward Reader.Ended bases flags (take (length part) part) (move Reader.Ended (length part) []) bases flags
@@ -97,47 +97,56 @@ module _ (part bases flags : List ℕ) where
   header-onward i =
       cases (endsLine part) refl
     where
-      cases : (t : Bool) → endsLine part ≡ t → Onward (Reader.Header i) bases flags (take (lineUsed part) part) (move (pick t (Reader.Fresh (opened i)) (Reader.Header i)) (lineUsed part) []) bases flags
+      cases : (t : Bool) → endsLine part ≡ t
+          → Onward (Reader.Header i) bases flags (take (lineUsed part) part) (move (pick t (Reader.Fresh (opened i)) (Reader.Header i)) (lineUsed part) []) bases flags
       cases true e =
-          taking part bases flags bases flags (Reader.Header i) (move (Reader.Fresh (opened i)) (lineUsed part) []) (whole true) (line-taken true e)
-          (from-one (header i) (whole true) (move (Reader.Fresh (opened i)) (lineUsed part) []) bases flags
-          (λ l. (fresh i [], (i, [], refl, holds-none i bases flags), leads-header-end i (take (lineEnd part) part) (line-plain part))))
+          goes part bases flags (header i) (move (Reader.Fresh (opened i)) (lineUsed part) []) (whole true) (line-taken true e)
+          (λ l. (fresh i [], (i, [], refl, holds-none i bases flags), leads-header-end i (take (lineEnd part) part) (line-plain part)))
       cases false e =
-          taking part bases flags bases flags (Reader.Header i) (move (Reader.Header i) (lineUsed part) []) (whole false) (line-taken false e)
-          (from-one (header i) (whole false) (move (Reader.Header i) (lineUsed part) []) bases flags (λ l. (header i, refl, leads-header i (take (lineEnd part) part) (line-plain part))))
+          goes part bases flags (header i) (move (Reader.Header i) (lineUsed part) []) (whole false) (line-taken false e)
+          (λ l. (header i, refl, leads-header i (take (lineEnd part) part) (line-plain part)))
 
   -- in a record, within a line
   module _ (size : Sized bases flags) (k : Record) where
     letters : List ℕ
     letters = take (lineEnd part) part
 
-    grown : (i : ℕ) (ls : List ℕ) → Holds k bases flags i ls → Holds (lengthened k (lineEnd part)) (lineTrack 2 k part bases) (lineTrack 1 k part flags) i (ls ++ letters)
+    -- the record and its tracks after the letters
+    abbrev longer : Record
+    longer = lengthened k (lineEnd part)
+
+    abbrev bases′ : List ℕ
+    bases′ = lineTrack 2 k part bases
+
+    abbrev flags′ : List ℕ
+    flags′ = lineTrack 1 k part flags
+
+    grown : (i : ℕ) (ls : List ℕ) → Holds k bases flags i ls → Holds longer bases′ flags′ i (ls ++ letters)
     unfolding lineTrack letters
     grown i ls h =
         subst (λ (n : ℕ). Holds (lengthened k n) (after 2 bases (k .count) (pushAscii letters)) (after 1 flags (k .count) (pushAscii letters)) i (ls ++ letters))
         (length-take-le (lineEnd part) part (line-end part .inside)) (lengthens k bases flags letters size i ls h)
 
-    line-onward : Onward (Reader.Within k) bases flags (take (inLine k part .used) part) (inLine k part) (lineTrack 2 k part bases) (lineTrack 1 k part flags)
+    line-onward : Onward (Reader.Within k) bases flags (take (inLine k part .used) part) (inLine k part) bases′ flags′
     unfolding inLine letters
     line-onward =
         cases (endsLine part) refl
       where
-        cases : (t : Bool) → endsLine part ≡ t → Onward (Reader.Within k) bases flags (take (lineUsed part) part) (move (pick t (Reader.Fresh (lengthened k (lineEnd part))) (Reader.Within (lengthened k (lineEnd part)))) (lineUsed part) []) (lineTrack 2 k part bases) (lineTrack 1 k part flags)
-        cases true e =
-            taking part bases flags (lineTrack 2 k part bases) (lineTrack 1 k part flags) (Reader.Within k) (move (Reader.Fresh (lengthened k (lineEnd part))) (lineUsed part) []) (whole true) (line-taken true e)
-            (λ s m. from-one (within (m .0) (m .1)) (whole true) (move (Reader.Fresh (lengthened k (lineEnd part))) (lineUsed part) []) (lineTrack 2 k part bases) (lineTrack 1 k part flags)
+        cases : (t : Bool) → endsLine part ≡ t
+            → Onward (Reader.Within k) bases flags (take (lineUsed part) part) (move (pick t (Reader.Fresh longer) (Reader.Within longer)) (lineUsed part) []) bases′ flags′
+        cases true e s m =
+            goes part bases′ flags′ (within (m .0) (m .1)) (move (Reader.Fresh longer) (lineUsed part) []) (whole true) (line-taken true e)
             (λ l. (fresh (m .0) (m .1 ++ letters), (m .0, m .1 ++ letters, refl, grown (m .0) (m .1) (m .3)), leads-within-end (m .0) letters (line-plain part) (m .1)))
-            s (m .2))
-        cases false e =
-            taking part bases flags (lineTrack 2 k part bases) (lineTrack 1 k part flags) (Reader.Within k) (move (Reader.Within (lengthened k (lineEnd part))) (lineUsed part) []) (whole false) (line-taken false e)
-            (λ s m. from-one (within (m .0) (m .1)) (whole false) (move (Reader.Within (lengthened k (lineEnd part))) (lineUsed part) []) (lineTrack 2 k part bases) (lineTrack 1 k part flags)
+            s (m .2)
+        cases false e s m =
+            goes part bases′ flags′ (within (m .0) (m .1)) (move (Reader.Within longer) (lineUsed part) []) (whole false) (line-taken false e)
             (λ l. (within (m .0) (m .1 ++ letters), (m .0, m .1 ++ letters, refl, grown (m .0) (m .1) (m .3)), leads-within (m .0) letters (line-plain part) (m .1)))
-            s (m .2))
+            s (m .2)
 
     -- and at the start of one
-    line-letters : 0 < length part → isHeader part ≡ false → Onward (Reader.Fresh k) bases flags (take (inLine k part .used) part) (inLine k part) (lineTrack 2 k part bases) (lineTrack 1 k part flags)
+    line-letters : 0 < length part → isHeader part ≡ false → Onward (Reader.Fresh k) bases flags (take (inLine k part .used) part) (inLine k part) bases′ flags′
     line-letters h e s j =
-        from-one (fresh (j .0) (j .1)) (take (inLine k part .used) part) (inLine k part) (lineTrack 2 k part bases) (lineTrack 1 k part flags)
+        from-one (fresh (j .0) (j .1)) (take (inLine k part .used) part) (inLine k part) bases′ flags′
         (λ l.
         let g = line-onward (within (j .0) (j .1)) (j .0, j .1, refl, j .3) l in
         let u : 0 < inLine k part .used = line-bounded part k .some h in (
@@ -149,25 +158,26 @@ module _ (part bases flags : List ℕ) where
         s (j .2)
 
     line-next : 0 < length part → isHeader part ≡ true → Onward (Reader.Fresh k) bases flags (take 1 part) (move (Reader.Header (ordinal k)) 1 (rowFrom k bases flags)) bases flags
-    line-next h e =
-        taking part bases flags bases flags (Reader.Fresh k) (move (Reader.Header (ordinal k)) 1 (rowFrom k bases flags)) (62 ∷ []) (one h 62 (eqb-true (getD part 0 0) 62 (sym (header-first part h) ∙ e)))
-        (λ s j. from-one (fresh (j .0) (j .1)) (62 ∷ []) (move (Reader.Header (ordinal k)) 1 (rowFrom k bases flags)) bases flags
+    line-next h e s j =
+        goes part bases flags (fresh (j .0) (j .1)) (move (Reader.Header (ordinal k)) 1 (rowFrom k bases flags)) (62 ∷ [])
+        (one h 62 (eqb-true (getD part 0 0) 62 (sym (header-first part h) ∙ e)))
         (λ l.
         let w : ordinal k ≡ suc (j .0) = omega (arith, j .3 .number) in (
           header (suc (j .0)),
           ap header (sym w),
           subst (λ (x : List ℕ). Leads (fresh (j .0) (j .1)) (62 ∷ []) x (header (suc (j .0)))) (row-held k bases flags (j .0) (j .1) (j .3) w) (leads-next (j .0) (j .1)),
         ))
-        s (j .2))
+        s (j .2)
 
-    fresh-onward : 0 < length part → Onward (Reader.Fresh k) bases flags (take (atLine k part bases flags .used) part) (atLine k part bases flags) (trackAfter 2 (Reader.Fresh k) part bases) (trackAfter 1 (Reader.Fresh k) part flags)
+    fresh-onward : 0 < length part
+        → let x : Reader = Reader.Fresh k in Onward x bases flags (take (atLine k part bases flags .used) part) (atLine k part bases flags) (trackAfter 2 x part bases) (trackAfter 1 x part flags)
     unfolding atLine trackAfter
     fresh-onward h =
         cases (isHeader part) refl
       where
         cases : (t : Bool) → isHeader part ≡ t
             → (let m : Move = pick t (move (Reader.Header (ordinal k)) 1 (rowFrom k bases flags)) (inLine k part) in
-            Onward (Reader.Fresh k) bases flags (take (m .used) part) m (pick t bases (lineTrack 2 k part bases)) (pick t flags (lineTrack 1 k part flags)))
+            Onward (Reader.Fresh k) bases flags (take (m .used) part) m (pick t bases bases′) (pick t flags flags′))
         cases true e = line-next h e
         cases false e = line-letters h e
 

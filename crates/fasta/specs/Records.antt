@@ -25,9 +25,17 @@ lengthened k n = record { number = k .number; count = atMost (k .count + n) }
 abbrev pub ordinal : Record → ℕ
 ordinal k = (k .number + 1) % 2 ^ 64
 
+-- how many of its letters are ambiguous, by its flags
+abbrev pub ambiguousIn : Record → List ℕ → ℕ
+ambiguousIn k flags = setFlags (chars 1 flags 0 (k .count))
+
+-- its bases against their reverse complement
+abbrev pub strandIn : Record → List ℕ → ℕ
+strandIn k bases = strandOf (chars 2 bases 0 (k .count))
+
 -- its row
 unfoldable pub rowFrom : Record → List ℕ → List ℕ → List ℕ
-rowFrom k bases flags = rowOf (ordinal k) (k .count) (setFlags (chars 1 flags 0 (k .count))) (strandOf (chars 2 bases 0 (k .count)))
+rowFrom k bases flags = rowOf (ordinal k) (k .count) (ambiguousIn k flags) (strandIn k bases)
 
 -- and, if it is the last, the total
 unfoldable pub closed : Record → List ℕ → List ℕ → List ℕ

@@ -25,7 +25,7 @@ pub struct Record {
 }
 
 // Where the bytes read so far end: before any header, in a header line after so many records, in a record at the start of
-// a line or within one, or after letters that no header came before.
+// a line or within one, or after the report: letters came before any header, or a feed has written the last lines.
 pub enum Reader {
     Start,
     Header(u64),
@@ -75,7 +75,8 @@ pub fn step(
     ensures bases { λ _. ⌜ now (bases .exit) ≡ trackAfter 2 reader (seen (now (part .entry)) (now (out .entry))) (now (bases .entry)) ⌝ }
     ensures flags { λ _. ⌜ now (flags .exit) ≡ trackAfter 1 reader (seen (now (part .entry)) (now (out .entry))) (now (flags .entry)) ⌝ }
     ensures other { λ _. ⌜ now (other .exit) ≡ otherAfter reader (seen (now (part .entry)) (now (out .entry))) (now (bases .entry)) (now (other .entry)) ⌝ }
-    ensures out { λ _. ⌜ now (out .exit) ≡ onto (next reader (seen (now (part .entry)) (now (out .entry))) (now (bases .entry)) (now (flags .entry)) .written) (now (out .entry)) ⌝ }
+    ensures out { λ _. ⌜ now (out .exit)
+        ≡ onto (next reader (seen (now (part .entry)) (now (out .entry))) (now (bases .entry)) (now (flags .entry)) .written) (now (out .entry)) ⌝ }
 {
     if part.len() == 0 {
         return Stepped {

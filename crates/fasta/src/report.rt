@@ -11,10 +11,9 @@ use rows::inner::strands::strand;
 ghost use mathlib.Core.Path.{_≡_};
 ghost use Prim.Native.Nat.{_+_, _≤_};
 ghost use lib.ListN.{length};
-ghost use Rattle.codes.specs.Codes.{chars};
-ghost use Rattle.rows.specs.Columns.{Put, setFlags, strandOf};
+ghost use Rattle.rows.specs.Columns.{Put};
 ghost use Rattle.fasta.specs.Report.{body, rowOf, totalOf};
-ghost use Rattle.fasta.specs.Records.{marked};
+ghost use Rattle.fasta.specs.Records.{ambiguousIn, strandIn, marked};
 
 // What stands behind a record's number: its columns, or `too-long`.
 fn put_body(
@@ -26,7 +25,8 @@ fn put_body(
     at: usize,
 ) -> usize
     requires { ⌜ at + 43 ≤ length (now out) ⌝ }
-    ensures out { λ r. ⌜ Put (now (out .entry)) at (body (kept .count) (setFlags (chars 1 (now (flags .entry)) 0 (kept .count))) (strandOf (chars 2 (now (bases .entry)) 0 (kept .count)))) (now (out .exit)) r ⌝ }
+    ensures out { λ r. ⌜ Put (now (out .entry)) at
+        (body (kept .count) (ambiguousIn kept (now (flags .entry))) (strandIn kept (now (bases .entry)))) (now (out .exit)) r ⌝ }
     ensures other { λ _. ⌜ now (other .exit) ≡ marked kept (now (bases .entry)) (now (other .entry)) ⌝ }
 {
     let count = kept.count;
@@ -48,7 +48,8 @@ pub(crate) fn put_row(
     out: &mut [u8],
 ) -> usize
     requires { ⌜ 65 ≤ length (now out) ⌝ }
-    ensures out { λ r. ⌜ Put (now (out .entry)) 0 (rowOf number (kept .count) (setFlags (chars 1 (now (flags .entry)) 0 (kept .count))) (strandOf (chars 2 (now (bases .entry)) 0 (kept .count)))) (now (out .exit)) r ⌝ }
+    ensures out { λ r. ⌜ Put (now (out .entry)) 0
+        (rowOf number (kept .count) (ambiguousIn kept (now (flags .entry))) (strandIn kept (now (bases .entry)))) (now (out .exit)) r ⌝ }
     ensures other { λ _. ⌜ now (other .exit) ≡ marked kept (now (bases .entry)) (now (other .entry)) ⌝ }
 {
     let a = put_decimal(number, out, 0);

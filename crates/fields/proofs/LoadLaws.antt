@@ -6,7 +6,7 @@ use Prim.Native.Nat.{ℕ, _+_, _*_, _/_, _%_, _^_, _≤_, _<_, zero-le}
 use native.Mathlib.Nat.{add-zero, mul-add, mul-left-comm, mul-comm, mul-le-mul-left, le-trans, mul-div-le}
 use native.Mathlib.Omega.{arith}
 use lib.ListN.{length, getD}
-use Rattle.codes.specs.Codes.{per, IsWidth, chars}
+use Rattle.codes.specs.Codes.{per, IsWidth, chars, trailing}
 use Rattle.codes.specs.Refusals.{first, badWord}
 use Rattle.codes.specs.declared.refusals.Outcome.the-variants.{Done}
 use Rattle.codes.specs.Words.{word}
@@ -27,8 +27,8 @@ pub record Bits (w n o len : ℕ) : Type 0 where
 pub view-bits : {w : ℕ} → IsWidth w → (n o len : ℕ) → first (viewTests w n o len) ≡ Done → Bits w n o len
 view-bits {w} W n o len e =
     let h = view-accepted w n o len e in
-    let behind : w * (48 * per w) ≡ 384 = mul-left-comm w 48 (per w) ∙ ap (λ (x : ℕ). 48 * x) (W .whole) in
-    let s : w * (o + len + 48 * per w) ≡ w * o + w * len + 384 = mul-add w (o + len) (48 * per w) ∙ ap₂ (λ (p q : ℕ). p + q) (mul-add w o len) behind in
+    let behind : w * (trailing * per w) ≡ 384 = mul-left-comm w trailing (per w) ∙ ap (λ (x : ℕ). trailing * x) (W .whole) in
+    let s : w * (o + len + trailing * per w) ≡ w * o + w * len + 384 = mul-add w (o + len) (trailing * per w) ∙ ap₂ (λ (p q : ℕ). p + q) (mul-add w o len) behind in
     let t : w * (n * per w) ≡ 8 * n = mul-left-comm w n (per w) ∙ ap (λ (x : ℕ). n * x) (W .whole) ∙ mul-comm n 8 in
     record { few = h .small; room = subst₂ (λ (p q : ℕ). p ≤ q) s t (mul-le-mul-left w (h .fits)); short = room-sum W h }
 

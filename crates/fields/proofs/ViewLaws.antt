@@ -9,45 +9,45 @@ use lib.Dec.{ltb, leb}
 use lib.ListN.{length, getD, drop}
 use lib.Seq.{getD-take, getD-drop}
 use borrow.Author.Tests.{ltb-false, leb-false}
-use Rattle.codes.specs.Codes.{per, up, IsWidth, charAt, chars}
+use Rattle.codes.specs.Codes.{per, up, trailing, IsWidth, charAt, chars}
 use Rattle.codes.specs.Refusals.{first, badIndex, badEnd, badStart}
 use Rattle.codes.specs.declared.refusals.Outcome.the-variants.{Done}
 use Rattle.codes.proofs.CharLaws.{chars-ext}
 use Rattle.codes.proofs.OutcomeLaws.{passed, first-both}
-use Rattle.codes.proofs.WidthLaws.{per-pos, up-hi, up-mono, up-whole, less-48, chars-bound}
+use Rattle.codes.proofs.WidthLaws.{per-pos, up-hi, up-mono, up-whole, less-trailing, chars-bound}
 use Rattle.fields.specs.Fields.{viewTests, sliceTests}
 use Rattle.fields.specs.Spans.{Span, normalPart}
 
 -- an accepted view of n bytes: they are not too many, and reach 48 beyond the characters
 pub record Room (w n o len : ℕ) : Type 0 where
   pub small : n ≤ 2 ^ 28
-  pub fits : o + len + 48 * per w ≤ n * per w
+  pub fits : o + len + trailing * per w ≤ n * per w
 
 pub view-accepted : (w n o len : ℕ) → first (viewTests w n o len) ≡ Done → Room w n o len
 view-accepted w n o len e =
     let p = passed (ltb (2 ^ 28) n) _ _ e in
-    let q = passed (ltb (n * per w) (o + len + 48 * per w)) _ _ (p .1) in
-    record { small = ltb-false (2 ^ 28) n (p .0); fits = ltb-false (n * per w) (o + len + 48 * per w) (q .0) }
+    let q = passed (ltb (n * per w) (o + len + trailing * per w)) _ _ (p .1) in
+    record { small = ltb-false (2 ^ 28) n (p .0); fits = ltb-false (n * per w) (o + len + trailing * per w) (q .0) }
 
 module _ {w : ℕ} (W : IsWidth w) {n o len : ℕ} (room : Room w n o len) where
   -- its sums fit a machine word
   pub room-sum : o + len ≤ 2 ^ 31
   room-sum = omega (arith, chars-bound W n (room .small), room .fits)
 
-  pub room-pad : 48 ≤ n
-  room-pad = le-of-mul-le-mul-right {m = 48} {n = n} {k = per w} (omega (arith, room .fits)) (per-pos W)
+  pub room-pad : trailing ≤ n
+  room-pad = le-of-mul-le-mul-right {m = trailing} {n = n} {k = per w} (omega (arith, room .fits)) (per-pos W)
 
   -- each character stands in the bytes
   pub room-char : (i : ℕ) → i < len → (o + i) / per w < n
   room-char i h = div-lt-iff-lt-mul (per-pos W) .1 (omega (arith, room .fits))
 
   -- and the normalised part is within them
-  pub room-end : up w (o + len) + 48 ≤ n
+  pub room-end : up w (o + len) + trailing ≤ n
   room-end =
-      let h : up w (o + len) ≤ n - 48 = subst (λ (x : ℕ). up w (o + len) ≤ x) (up-whole W (n - 48)) (up-mono W (o + len) ((n - 48) * per w) (omega (arith, room .fits, less-48 n (per w) room-pad))) in
+      let h : up w (o + len) ≤ n - trailing = subst (λ (x : ℕ). up w (o + len) ≤ x) (up-whole W (n - trailing)) (up-mono W (o + len) ((n - trailing) * per w) (omega (arith, room .fits, less-trailing n (per w) room-pad))) in
       omega (arith, room-pad)
 
-  pub room-start : o / per w ≤ up w (o + len) + 48
+  pub room-start : o / per w ≤ up w (o + len) + trailing
   room-start = let h : o / per w ≤ up w (o + len) = le-div-iff-mul-le (per-pos W) .1 (omega (arith, div-mul-le-self o (per w))) in omega arith
 
 -- normalising keeps the characters
@@ -59,7 +59,7 @@ module _ {w : ℕ} (W : IsWidth w) (s : Span) (o len : ℕ) (room : Room w (leng
   unfolding charAt
   normal-char i h =
       ap (λ (x : ℕ). x / 2 ^ (w * ((o % per w + i) % per w)) % 2 ^ w)
-      (getD-take (up w (o + len) + 48 - o / per w) (drop (o / per w) bs) ((o % per w + i) / per w) 0 within ∙ getD-drop (o / per w) bs ((o % per w + i) / per w) 0 ∙ ap (λ (b : ℕ). getD bs b 0) byte)
+      (getD-take (up w (o + len) + trailing - o / per w) (drop (o / per w) bs) ((o % per w + i) / per w) 0 within ∙ getD-drop (o / per w) bs ((o % per w + i) / per w) 0 ∙ ap (λ (b : ℕ). getD bs b 0) byte)
       ∙ ap (λ (k : ℕ). getD bs ((o + i) / per w) 0 / 2 ^ (w * k) % 2 ^ w) digit
     where
       split : o / per w * per w + (o % per w + i) ≡ o + i
@@ -71,7 +71,7 @@ module _ {w : ℕ} (W : IsWidth w) (s : Span) (o len : ℕ) (room : Room w (leng
       digit : (o % per w + i) % per w ≡ (o + i) % per w
       digit = sym (mul-add-mod-self-right (o / per w) (per w) (o % per w + i)) ∙ ap (λ (x : ℕ). x % per w) split
 
-      within : (o % per w + i) / per w < up w (o + len) + 48 - o / per w
+      within : (o % per w + i) / per w < up w (o + len) + trailing - o / per w
       within =
           let h : (o + i) / per w < up w (o + len) = div-lt-iff-lt-mul (per-pos W) .1 (omega (arith, up-hi W (o + len))) in
           omega (arith, byte)

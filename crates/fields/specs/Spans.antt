@@ -4,7 +4,7 @@ use denote.Ref.{RefT}
 use mathlib.Core.List.{List}
 use Prim.Native.Nat.{ℕ, _+_, _-_, _/_}
 use lib.ListN.{take, drop}
-use Rattle.codes.specs.Codes.{per, up}
+use Rattle.codes.specs.Codes.{per, up, trailing}
 
 -- lent bytes: their place, which is the memory that they lie in and the first of them there, and the bytes
 pub record Span : Type 0 where
@@ -25,4 +25,4 @@ front s = part 0 0 s
 
 -- what normalising hands back: from byte offset / C8 to byte ceil((offset + length) / C8) + 48
 abbrev pub normalPart : ℕ → Span → ℕ → ℕ → Span
-normalPart w s o len = part (o / per w) (up w (o + len) + 48) s
+normalPart w s o len = part (o / per w) (up w (o + len) + trailing) s

@@ -19,7 +19,7 @@ use Rattle.forms.specs.Forms.{stored, formSize, headOf, hasHead, lengthO
 use Rattle.forms.specs.Numbers.{Spelling, spelt, spelling, Fits}
 use Rattle.forms.proofs.NumberLaws.{spelling-fits}
 use Rattle.forms.proofs.TrackLaws.{length-packed}
-use Rattle.forms.proofs.WriteLaws.{put-on}
+use Rattle.codes.proofs.Turns.{put-on}
 
 module _ (xs : List ℕ) (ao : ℕ) (ys : List ℕ) (bo n : ℕ) (old : List ℕ) where
   -- the base bytes behind the head, and the flag bytes behind them

@@ -6,3 +6,4 @@ pub mod FormLaws
 pub mod ReadLaws
 pub mod RoundTrip
 pub mod Decided
+pub mod Viewed

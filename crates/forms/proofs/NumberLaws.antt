@@ -13,10 +13,11 @@ use lib.ListN.{length, getD, take, drop, set, length-drop, drop-of-length-le}
 use lib.Pow.{pow-mono, shr-lt}
 use lib.Seq.{drop-cons}
 use borrow.Author.Tests.{lt-ltb, le-ltb, eq-eqb, ne-eqb}
+use Rattle.codes.specs.Made.{Made}
+use Rattle.codes.proofs.MadeLaws.{made-more, made-list}
 use Rattle.codes.proofs.WidthLaws.{below-or}
 use Rattle.codes.proofs.WordLaws.{Below, pow-step}
 use Rattle.forms.specs.Numbers.{Spelling, spelt, spelling, further, led, Fits}
-use Rattle.forms.proofs.WriteLaws.{over, over-turn, over-all}
 
 -- ---- one byte of a number
 
@@ -164,7 +165,7 @@ pub record Spelt (n : ℕ) (old : List ℕ) (i : ℕ) (out : List ℕ) (rest : �
   pub few : i < 5
   pub small : rest < 2 ^ (7 * (5 - i))
   pub behind : drop i (spelt 5 n) ≡ spelt (5 - i) rest
-  pub done : out ≡ over (spelt 5 n) old i
+  pub done : Made (λ j. getD (spelt 5 n) j 0) 0 i old out
 
 module _ (n : ℕ) (old : List ℕ) (i : ℕ) (out : List ℕ) (rest : ℕ) (room : length (spelt 5 n) ≤ length old) (t : Spelt n old i out rest) where
   fuel : 5 - i ≡ suc (4 - i)
@@ -190,7 +191,7 @@ module _ (n : ℕ) (old : List ℕ) (i : ℕ) (out : List ℕ) (rest : ℕ) (roo
         few = below-or i 4 (λ l. omega arith) (λ l. let z : 4 - i ≡ 0 = omega arith in let q : rest < 128 = subst (λ (x : ℕ). rest < 2 ^ (7 * x + 7)) z small in absurd (omega arith));
         small = subst (λ (x : ℕ). rest / 128 < 2 ^ (7 * x)) (sym less) (shr-lt (7 * (4 - i)) 7 small);
         behind = ap (λ (k : ℕ). drop k (spelt 5 n)) (add-one i) ∙ tail ∙ ap (λ (k : ℕ). spelt k (rest / 128)) (sym less);
-        done = over-turn (spelt 5 n) old i out (rest % 128 + 128) spelt-here (lt-of-lt-of-le spelt-here room) (t .done) head;
+        done = made-more (t .done) (omega arith) (lt-of-lt-of-le spelt-here room) head;
       }
 
   pub spelt-end : rest < 128 → set out i rest ≡ spelt 5 n ++ drop (length (spelt 5 n)) old
@@ -198,5 +199,4 @@ module _ (n : ℕ) (old : List ℕ) (i : ℕ) (out : List ℕ) (rest : ℕ) (roo
       let e : getD (spelt 5 n) i 0 ∷ drop (suc i) (spelt 5 n) ≡ rest ∷ [] = heads ∙ spelt-last (4 - i) rest h in
       let head : rest ≡ getD (spelt 5 n) i 0 = cc in
       let tail : drop (suc i) (spelt 5 n) ≡ [] = cc in
-      over-turn (spelt 5 n) old i out rest spelt-here (lt-of-lt-of-le spelt-here room) (t .done) head
-      ∙ over-all (spelt 5 n) old (i + 1) (omega (arith, spelt-here, length-drop (suc i) (spelt 5 n), ap length tail))
+      made-list (spelt 5 n) (made-more (t .done) (omega arith) (lt-of-lt-of-le spelt-here room) head) (omega (arith, spelt-here, length-drop (suc i) (spelt 5 n), ap length tail)) room

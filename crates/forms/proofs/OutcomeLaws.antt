@@ -8,7 +8,7 @@ use native.Mathlib.Omega.{arith}
 use lib.Dec.{ltb, leb, eqb}
 use lib.ListN.{take, drop}
 use borrow.Author.Tests.{ltb-false, eq-eqb, ne-eqb, le-leb, lt-leb, eqb-true, leb-true}
-use Rattle.codes.specs.Codes.{per}
+use Rattle.codes.specs.Codes.{per, trailing}
 use Rattle.codes.specs.Refusals.{Test, answer, first}
 use Rattle.codes.specs.declared.refusals.Outcome.{Outcome}
 use Rattle.codes.specs.declared.refusals.Outcome.the-variants.{Done, Refused}
@@ -86,7 +86,7 @@ write-done m ao al n bo bl room e =
     let t = tracks-of al bl (h .1 .1 .1 .1 .0) in
     record {
       base-view = sym (first-at 2 (viewTests 2 m ao al) (h .0, (h .1 .1 .0, tt)));
-      flag-view = sym (first-at 2 (viewTests 1 n bo al) (h .1 .0, (ap (λ (x : ℕ). ltb (n * per 1) (bo + x + 48 * per 1)) (t .0) ∙ h .1 .1 .1 .0, tt)));
+      flag-view = sym (first-at 2 (viewTests 1 n bo al) (h .1 .0, (ap (λ (x : ℕ). ltb (n * per 1) (bo + x + trailing * per 1)) (t .0) ∙ h .1 .1 .1 .0, tt)));
       same = t .0;
       few = t .1;
       fits = ltb-false room (formSize al) (h .1 .1 .1 .1 .1 .0);

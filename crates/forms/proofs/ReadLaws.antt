@@ -1,6 +1,6 @@
 -- What holds of bytes that are a form, and where reading is not refused.
 -- Assumes nothing.
-use mathlib.Core.Bool.{Bool, true, false, _&&_, not}
+use mathlib.Core.Bool.{Bool, true, false, _&&_}
 use mathlib.Core.List.{List}
 use mathlib.Core.Option.{Option, some, none}
 use mathlib.Core.Path.{_≡_, refl, sym, ap, ap₂, _∙_}
@@ -11,7 +11,7 @@ use lib.Dec.{leb, eqb}
 use lib.ListN.{length, take, drop, length-drop}
 use lib.Seq.{take-all, length-take-le}
 use borrow.Author.Tests.{eqb-true, leb-true, ltb-false, not-false}
-use Rattle.codes.specs.Codes.{up}
+use Rattle.codes.specs.Codes.{up, trailing}
 use Rattle.codes.specs.Refusals.{answer, first}
 use Rattle.codes.specs.declared.refusals.Outcome.{Outcome}
 use Rattle.codes.specs.declared.refusals.Outcome.the-variants.{Done}
@@ -80,8 +80,8 @@ pub record Readable (bs : List ℕ) (m n len body : ℕ) : Type 0 where
   pub body-is : body ≡ bodyOf (headOf bs)
   pub small : length bs ≤ 2 ^ 28
   pub whole : length bs ≡ body + (up 2 len + up 1 len)
-  pub base-room : up 2 len + 48 ≤ m
-  pub flag-room : up 1 len + 48 ≤ n
+  pub base-room : up 2 len + trailing ≤ m
+  pub flag-room : up 1 len + trailing ≤ n
 
 pub readable : (bs : List ℕ) (m n len body : ℕ) → answer {A = ℕ × ℕ} Done (len, body) (0, 0) ≡ answer (first (readTests bs m n)) (formLength bs, bodyOf (headOf bs)) (0, 0) → Readable bs m n len body
 readable bs m n len body e =
@@ -102,5 +102,5 @@ readable bs m n len body e =
       flag-room = ap-le 1 n len (formLength bs) l (ltb-false n _ (h .1 .1 .1 .1 .1 .0));
     }
   where
-    ap-le : (w m a b : ℕ) → a ≡ b → up w b + 48 ≤ m → up w a + 48 ≤ m
+    ap-le : (w m a b : ℕ) → a ≡ b → up w b + trailing ≤ m → up w a + trailing ≤ m
     ap-le w m a b e h = rw e h

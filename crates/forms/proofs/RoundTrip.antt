@@ -51,25 +51,35 @@ module _ (cs fs : List ℕ) (codes : Below 2 cs) (marks : Below 1 fs) (same : le
   is = spelling-spelt 4 (length cs) (packed 2 cs ++ packed 1 fs) (omega arith)
 
   -- behind the head stand the base bytes, and behind them the flag bytes
-  base-part : take (up 2 n) (drop (suc size) (stored cs fs)) ≡ packed 2 cs
+  behind : drop (suc size) (stored cs fs) ≡ packed 2 cs ++ packed 1 fs
   unfolding stored n size
-  base-part = ap (take (up 2 (length cs))) (drop-at (spelt 5 (length cs)) (packed 2 cs ++ packed 1 fs) (length (spelt 5 (length cs))) refl) ∙ take-at (packed 2 cs) (packed 1 fs) (up 2 (length cs)) (length-packed width-2 cs)
+  behind = drop-at (spelt 5 (length cs)) (packed 2 cs ++ packed 1 fs) (length (spelt 5 (length cs))) refl
+
+  base-part : take (up 2 n) (drop (suc size) (stored cs fs)) ≡ packed 2 cs
+  unfolding n
+  base-part = ap (take (up 2 n)) behind ∙ take-at (packed 2 cs) (packed 1 fs) (up 2 (length cs)) (length-packed width-2 cs)
 
   flag-part : drop (suc size + up 2 n) (stored cs fs) ≡ packed 1 fs
-  unfolding stored n size
+  unfolding n
   flag-part =
-      sym (drop-drop (up 2 (length cs)) (suc (length (spelt 5 (length cs)))) (stored cs fs))
-      ∙ ap (drop (up 2 (length cs))) (drop-at (spelt 5 (length cs)) (packed 2 cs ++ packed 1 fs) (length (spelt 5 (length cs))) refl)
-      ∙ drop-at (packed 2 cs) (packed 1 fs) (up 2 (length cs)) (length-packed width-2 cs)
+      sym (drop-drop (up 2 n) (suc size) (stored cs fs)) ∙ ap (drop (up 2 n)) behind ∙ drop-at (packed 2 cs) (packed 1 fs) (up 2 (length cs)) (length-packed width-2 cs)
+
+  base-clear : spareClear 2 n (take (up 2 n) (drop (suc size) (stored cs fs))) ≡ true
+  unfolding n
+  base-clear = ap (spareClear 2 n) base-part ∙ spare-packed width-2 cs codes
 
   flag-clear : spareClear 1 n (packed 1 fs) ≡ true
   unfolding n
   flag-clear = subst (λ (k : ℕ). spareClear 1 k (packed 1 fs) ≡ true) same (spare-packed width-1 fs marks)
 
+  tracks-long : length (packed 2 cs ++ packed 1 fs) ≡ up 2 n + up 1 n
+  unfolding n
+  tracks-long = length-append (packed 2 cs) (packed 1 fs) ∙ ap₂ (λ (p q : ℕ). p + q) (length-packed width-2 cs) (length-packed width-1 fs ∙ ap (up 1) same)
+
   whole : length (stored cs fs) ≡ suc size + (up 2 n + up 1 n)
   unfolding stored n size
   whole =
-      ap suc (length-append (spelt 5 (length cs)) (packed 2 cs ++ packed 1 fs) ∙ ap (λ (k : ℕ). length (spelt 5 (length cs)) + k) (length-append (packed 2 cs) (packed 1 fs) ∙ ap₂ (λ (p q : ℕ). p + q) (length-packed width-2 cs) (length-packed width-1 fs ∙ ap (up 1) same)))
+      ap suc (length-append (spelt 5 (length cs)) (packed 2 cs ++ packed 1 fs) ∙ ap (λ (k : ℕ). length (spelt 5 (length cs)) + k) tracks-long)
       ∙ sym (suc-add (length (spelt 5 (length cs))) (up 2 (length cs) + up 1 (length cs)))
 
   pub round-trip-written : Reads cs fs (stored cs fs)
@@ -80,7 +90,7 @@ module _ (cs fs : List ℕ) (codes : Below 2 cs) (marks : Below 1 fs) (same : le
       let base = sym (baseBytes-is (stored cs fs) (length cs) (suc size) (sym l) (sym b)) ∙ base-part in
       let flag = sym (flagBytes-is (stored cs fs) (length cs) (suc size) (sym l) (sym b)) ∙ flag-part in
       record {
-        accepted = isForm-tracks (stored cs fs) head is few ∙ sym (tracks-flag (stored cs fs) (length cs) (suc size) whole (ap (spareClear 2 (length cs)) base-part ∙ spare-packed width-2 cs codes)) ∙ ap (spareClear 1 (length cs)) flag-part ∙ flag-clear;
+        accepted = isForm-tracks (stored cs fs) head is few ∙ sym (tracks-flag (stored cs fs) n (suc size) whole base-clear) ∙ ap (spareClear 1 n) flag-part ∙ flag-clear;
         long = l;
         base-bytes = base;
         flag-bytes = flag;
@@ -111,12 +121,13 @@ form-joined (b ∷ bs) s u h e =
     ∙ take-append-drop (s .size) bs)
 
 -- a form of n characters whose parts leave no spare bit
-restored : (bs : List ℕ) → Below 8 bs → (f : Form bs) (n : ℕ) (xs ys : List ℕ) → n ≡ f .read .value → xs ≡ take (up 2 n) (drop (suc (f .read .size)) bs) → ys ≡ drop (suc (f .read .size) + up 2 n) bs → stored (chars 2 xs 0 n) (chars 1 ys 0 n) ≡ bs
+restored : (bs : List ℕ) → Below 8 bs → (f : Form bs) (n : ℕ) (xs ys : List ℕ) → n ≡ f .read .value
+    → xs ≡ take (up 2 n) (drop (suc (f .read .size)) bs) → ys ≡ drop (suc (f .read .size) + up 2 n) bs → stored (chars 2 xs 0 n) (chars 1 ys 0 n) ≡ bs
 unfolding stored
 restored bs h f n xs ys en ex ey =
     ap₂ (λ (k : ℕ) (l : List ℕ). 1 ∷ (spelt 5 k ++ l)) (length-chars 2 xs 0 n ∙ en)
     (ap₂ (λ (p q : List ℕ). p ++ q)
-    (packed-spare width-2 n xs (subst (Below 8) (sym ex) (Below-take 8 (up 2 n) (drop (suc k) bs) (Below-drop 8 (suc k) bs h))) (ap length ex ∙ length-take-le (up 2 n) (drop (suc k) bs) room) (ap (spareClear 2 n) ex ∙ base-clear) ∙ ex)
+    (packed-spare width-2 n xs (subst (Below 8) (sym ex) base-fit) (ap length ex ∙ length-take-le (up 2 n) (drop (suc k) bs) room) (ap (spareClear 2 n) ex ∙ base-clear) ∙ ex)
     (packed-spare width-1 n ys (subst (Below 8) (sym ey) (Below-drop 8 (suc k + up 2 n) bs h)) (ap length ey ∙ flag-long) (ap (spareClear 1 n) ey ∙ flag-clear) ∙ ey))
     ∙ form-joined bs (f .read) (up 2 n) h (f .is)
   where
@@ -125,6 +136,9 @@ restored bs h f n xs ys en ex ey =
 
     whole : length bs ≡ suc k + (up 2 n + up 1 n)
     whole = f .whole ∙ ap (λ (m : ℕ). suc k + (up 2 m + up 1 m)) (sym en)
+
+    base-fit : Below 8 (take (up 2 n) (drop (suc k) bs))
+    base-fit = Below-take 8 (up 2 n) (drop (suc k) bs) (Below-drop 8 (suc k) bs h)
 
     room : up 2 n ≤ length (drop (suc k) bs)
     room = omega (arith, whole, length-drop (suc k) bs)
@@ -143,7 +157,9 @@ round-trip-read bs h e =
     let f = form-of bs e in
     let l = formLength-is bs (f .read) (f .is) in
     let b = sym (ap bodyOf (f .is)) in
-    restored bs h f (formLength bs) (baseBytes bs) (flagBytes bs) l (sym (baseBytes-is bs (formLength bs) (suc (f .read .size)) refl b)) (sym (flagBytes-is bs (formLength bs) (suc (f .read .size)) refl b))
+    let n = formLength bs in
+    let k = suc (f .read .size) in
+    restored bs h f n (baseBytes bs) (flagBytes bs) l (sym (baseBytes-is bs n k refl b)) (sym (flagBytes-is bs n k refl b))
 
 -- every accepted form is one that writing makes
 pub record Stored (bs : List ℕ) : Type 0 where

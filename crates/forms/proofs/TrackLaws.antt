@@ -3,9 +3,10 @@
 -- Assumes nothing.
 use mathlib.Core.Bool.{true}
 use mathlib.Core.List.{List, [], _∷_, _++_}
-use mathlib.Core.Path.{_≡_, refl, sym, ap, ap₂, _∙_, subst, subst₂}
-use Prim.Native.Nat.{ℕ, zero, _+_, _-_, _*_, _/_, _%_, _^_, _≤_, _<_}
-use native.Mathlib.Nat.{mul-add, mul-comm, mul-left-comm, mul-zero, add-zero, sub-add-cancel, div-one, div-eq-of-lt, mod-eq-of-lt, mod-lt, div-add-mod', mul-le-mul-left, lt-of-lt-of-le, pos-of-ne-zero, mul-pos, mul-suc, div-lt-iff-lt-mul, one-mul}
+use mathlib.Core.Path.{_≡_, refl, sym, ap, ap₂, _∙_, subst}
+use Prim.Native.Nat.{ℕ, _+_, _-_, _*_, _/_, _%_, _^_, _≤_, _<_}
+use native.Mathlib.Nat.{mul-add, mul-comm, mul-left-comm, mul-zero, one-mul, add-zero, sub-add-cancel, lt-of-lt-of-le, pos-of-ne-zero, mul-pos}
+use native.Mathlib.Nat.{div-one, div-eq-of-lt, mod-eq-of-lt, mod-lt, div-add-mod', div-lt-iff-lt-mul}
 use native.Mathlib.Decide.{ℕ-discrete}
 use native.Mathlib.Omega.{arith}
 use lib.Dec.{eqb}
@@ -13,17 +14,15 @@ use lib.ListN.{length, getD, take, drop}
 use lib.Pow.{pow-pos, pow-mono, shr-shr, shr-mod, field}
 use borrow.Author.Tests.{eq-eqb, ne-eqb, eqb-true}
 use Rattle.codes.specs.Codes.{per, up, IsWidth, tab, chars}
-use Rattle.codes.specs.Words.{word, charsOf, pack, packed}
+use Rattle.codes.specs.Words.{word, charsOf, packed}
 use Rattle.codes.proofs.CharLaws.{length-chars, length-pack, chars-fit}
 use Rattle.codes.proofs.FieldLaws.{field-of, word-chars}
-use Rattle.codes.proofs.TabLaws.{tab-ext, getD-tab, word-at, charsOf-tab}
-use Rattle.codes.proofs.WidthLaws.{below-or, per-pos, width-pos, up-hi, up-lo, up-above, up-whole, shift-lt}
+use Rattle.codes.proofs.PackedLaws.{up-bits, packed-is}
+use Rattle.codes.proofs.TabLaws.{word-at}
+use Rattle.codes.proofs.Turns.{put-on}
+use Rattle.codes.proofs.WidthLaws.{below-or, per-pos, up-hi, up-above, up-whole, shift-lt}
 use Rattle.codes.proofs.WordLaws.{Below, word-lt, word-charsOf, charsOf-word, charsOf-add, charsOf-fit, charsOf-mod, length-charsOf}
 use Rattle.forms.specs.Forms.{allZero, spareClear}
-use Rattle.forms.proofs.WriteLaws.{put-on}
-
-pub getD-charsOf : (w k x j : ℕ) → j < k → getD (charsOf w k x) j 0 ≡ x / 2 ^ (w * j) % 2 ^ w
-getD-charsOf w k x j h = ap (λ (l : List ℕ). getD l j 0) (charsOf-tab w k x) ∙ getD-tab k (λ i. x / 2 ^ (w * i) % 2 ^ w) j h
 
 -- k bytes more of x behind i
 bytes-on : (i k x y : ℕ) (old out out′ : List ℕ) → out ≡ charsOf 8 i x ++ drop i old → charsOf 8 k y ≡ charsOf 8 k (x / 2 ^ (8 * i)) → out′ ≡ take i out ++ (charsOf 8 k y ++ drop (i + k) out)
@@ -46,33 +45,6 @@ allZero-word w (c ∷ cs) =
     ]
 
 module _ {w : ℕ} (W : IsWidth w) where
-  -- the bytes of n characters, by their bits
-  pub up-bits : (n : ℕ) → (w * n ≤ 8 * up w n) × (8 * up w n < w * n + 8)
-  up-bits n =
-      let e : w * (up w n * per w) ≡ 8 * up w n = mul-left-comm w (up w n) (per w) ∙ ap (λ (x : ℕ). up w n * x) (W .whole) ∙ mul-comm (up w n) 8 in
-      let lo : 8 * up w n ≤ w * n + w * (per w - 1) = subst₂ (λ (p q : ℕ). p ≤ q) e (mul-add w n (per w - 1)) (mul-le-mul-left w (up-lo W n)) in
-      let one : w * (per w - 1) + w ≡ 8 = sym (mul-suc w (per w - 1)) ∙ ap (λ (x : ℕ). w * x) (omega (arith, per-pos W)) ∙ W .whole in
-      (subst (λ (x : ℕ). w * n ≤ x) e (mul-le-mul-left w (up-hi W n)), omega (arith, width-pos W))
-
-  -- packed bytes are those of the characters' number
-  pub packed-is : (cs : List ℕ) → Below w cs → packed w cs ≡ charsOf 8 (up w (length cs)) (word w cs)
-  unfolding packed pack
-  packed-is cs h =
-      tab-ext (up w (length cs)) (λ b. word w (tab (per w) (λ k. getD cs (b * per w + k) 0))) (λ b. word w cs / 2 ^ (8 * b) % 2 ^ 8) (λ b l. sym (byte b))
-      ∙ sym (charsOf-tab 8 (up w (length cs)) (word w cs))
-    where
-      place : (b k : ℕ) → 8 * b + w * k ≡ w * (b * per w + k)
-      place b k = ap (λ (x : ℕ). x + w * k) (mul-comm 8 b ∙ ap (λ (x : ℕ). b * x) (sym (W .whole)) ∙ mul-left-comm b w (per w)) ∙ sym (mul-add w (b * per w) k)
-
-      byte : (b : ℕ) → word w cs / 2 ^ (8 * b) % 2 ^ 8 ≡ word w (tab (per w) (λ k. getD cs (b * per w + k) 0))
-      byte b =
-          ap (λ (e : ℕ). word w cs / 2 ^ (8 * b) % 2 ^ e) (sym (W .whole))
-          ∙ sym (word-charsOf w (per w) (word w cs / 2 ^ (8 * b)))
-          ∙ ap (word w)
-          (charsOf-tab w (per w) (word w cs / 2 ^ (8 * b))
-          ∙ tab-ext (per w) (λ k. word w cs / 2 ^ (8 * b) / 2 ^ (w * k) % 2 ^ w) (λ k. getD cs (b * per w + k) 0)
-          (λ k l. ap (λ (x : ℕ). x % 2 ^ w) (shr-shr (word w cs) (8 * b) (w * k) ∙ ap (λ (e : ℕ). word w cs / 2 ^ e) (place b k)) ∙ word-at w cs h (b * per w + k)))
-
   pub length-packed : (cs : List ℕ) → length (packed w cs) ≡ up w (length cs)
   unfolding packed
   length-packed cs = length-pack w (up w (length cs)) (λ i. getD cs i 0)
@@ -80,11 +52,11 @@ module _ {w : ℕ} (W : IsWidth w) where
   -- and their number is the characters' number
   pub word-packed : (cs : List ℕ) → Below w cs → word 8 (packed w cs) ≡ word w cs
   word-packed cs h =
-      ap (word 8) (packed-is cs h) ∙ word-charsOf 8 (up w (length cs)) (word w cs) ∙ mod-eq-of-lt (lt-of-lt-of-le (word-lt w cs h) (pow-mono (up-bits (length cs) .0)))
+      ap (word 8) (packed-is W cs h) ∙ word-charsOf 8 (up w (length cs)) (word w cs) ∙ mod-eq-of-lt (lt-of-lt-of-le (word-lt w cs h) (pow-mono (up-bits W (length cs) .0)))
 
   -- the packed bytes of a view
   pub packed-chars : (s : List ℕ) → Below 8 s → (o n : ℕ) → packed w (chars w s o n) ≡ charsOf 8 (up w n) (word 8 s / 2 ^ (w * o) % 2 ^ (w * n))
-  packed-chars s bytes o n = packed-is (chars w s o n) (chars-fit w s o n) ∙ ap₂ (λ (m x : ℕ). charsOf 8 (up w m) x) (length-chars w s o n) (word-chars W s bytes o n)
+  packed-chars s bytes o n = packed-is W (chars w s o n) (chars-fit w s o n) ∙ ap₂ (λ (m x : ℕ). charsOf 8 (up w m) x) (length-chars w s o n) (word-chars W s bytes o n)
 
   -- ---- spare bits
 
@@ -144,7 +116,7 @@ module _ {w : ℕ} (W : IsWidth w) where
             ∙ ap (λ (x : ℕ). w * x) (div-add-mod' n (per w))
 
         bits : 8 * length bs ≤ 8 + 8 * b
-        bits = omega (arith, long, place, up-bits n .1, shift-lt W k (mod-lt n (per-pos W)))
+        bits = omega (arith, long, place, up-bits W n .1, shift-lt W k (mod-lt n (per-pos W)))
 
         small : word 8 bs < 2 ^ (8 + 8 * b)
         small = lt-of-lt-of-le (word-lt 8 bs bytes) (pow-mono bits)
@@ -165,7 +137,7 @@ module _ {w : ℕ} (W : IsWidth w) where
   -- packed characters leave no spare bits
   pub spare-packed : (cs : List ℕ) → Below w cs → spareClear w (length cs) (packed w cs) ≡ true
   spare-packed cs h =
-      spare-word (length cs) (packed w cs) (subst (Below 8) (sym (packed-is cs h)) (charsOf-fit 8 (up w (length cs)) (word w cs))) (length-packed cs)
+      spare-word (length cs) (packed w cs) (subst (Below 8) (sym (packed-is W cs h)) (charsOf-fit 8 (up w (length cs)) (word w cs))) (length-packed cs)
       ∙ eq-eqb (word 8 (packed w cs) / 2 ^ (w * length cs)) 0 (ap (λ (x : ℕ). x / 2 ^ (w * length cs)) (word-packed cs h) ∙ div-eq-of-lt (word-lt w cs h))
 
 -- ---- the loop that packs a view
@@ -178,8 +150,12 @@ pub record Packing (w : ℕ) (s : List ℕ) (o n : ℕ) (old : List ℕ) (i p le
   pub long : length out ≡ length old
 
 module _ (w : ℕ) (s : List ℕ) (o n : ℕ) (old : List ℕ) (i p left : ℕ) (out : List ℕ) (t : Packing w s o n old i p left out) where
+  -- the bytes from the view's first bit on, as one number
+  abbrev v : ℕ
+  v = word 8 s / 2 ^ (w * o)
+
   -- what is read at p
-  here : (k : ℕ) → word 8 s / 2 ^ p % 2 ^ k ≡ word 8 s / 2 ^ (w * o) / 2 ^ (8 * i) % 2 ^ k
+  here : (k : ℕ) → word 8 s / 2 ^ p % 2 ^ k ≡ v / 2 ^ (8 * i) % 2 ^ k
   here k = ap (λ (x : ℕ). x % 2 ^ k) (ap (λ (e : ℕ). word 8 s / 2 ^ e) (t .place) ∙ sym (shr-shr (word 8 s) (w * o) (8 * i)))
 
   pub packing-turn : (x : ℕ) (out′ : List ℕ) → 64 ≤ left → x ≡ word 8 s / 2 ^ p % 2 ^ 64 → out′ ≡ take i out ++ (charsOf 8 8 x ++ drop (i + 8) out) → length out′ ≡ length out
@@ -188,15 +164,19 @@ module _ (w : ℕ) (s : List ℕ) (o n : ℕ) (old : List ℕ) (i p left : ℕ) 
       record {
         place = omega (arith, t .place);
         bits = omega (arith, t .bits);
-        done = bytes-on i 8 (word 8 s / 2 ^ (w * o) % 2 ^ (w * n)) x old out out′ (t .done) (ap (charsOf 8 8) (ex ∙ here 64 ∙ sym (field-of (word 8 s / 2 ^ (w * o)) (8 * i) 64 (w * n) (omega (arith, t .bits)))) ∙ charsOf-mod 8 8 (word 8 s / 2 ^ (w * o) % 2 ^ (w * n) / 2 ^ (8 * i))) e;
+        done = bytes-on i 8 (v % 2 ^ (w * n)) x old out out′ (t .done) (ap (charsOf 8 8) (ex ∙ here 64 ∙ sym within) ∙ charsOf-mod 8 8 (v % 2 ^ (w * n) / 2 ^ (8 * i))) e;
         long = l ∙ t .long;
       }
+    where
+      within : v % 2 ^ (w * n) / 2 ^ (8 * i) % 2 ^ 64 ≡ v / 2 ^ (8 * i) % 2 ^ 64
+      within = field-of v (8 * i) 64 (w * n) (omega (arith, t .bits))
 
   pub packing-end : IsWidth w → Below 8 s → (x k : ℕ) (out′ : List ℕ) → x ≡ word 8 s / 2 ^ p % 2 ^ left → k ≡ (left + 7) / 8 → out′ ≡ take i out ++ (charsOf 8 k x ++ drop (i + k) out)
       → out′ ≡ packed w (chars w s o n) ++ drop (up w n) old
   packing-end W bytes x k out′ ex ek e =
-      bytes-on i k (word 8 s / 2 ^ (w * o) % 2 ^ (w * n)) x old out out′ (t .done) (ap (charsOf 8 k) (ex ∙ here left ∙ sym (field (word 8 s / 2 ^ (w * o)) left (8 * i)) ∙ ap (λ (m : ℕ). word 8 s / 2 ^ (w * o) % 2 ^ m / 2 ^ (8 * i)) (t .bits))) e
-      ∙ ap (λ (m : ℕ). charsOf 8 m (word 8 s / 2 ^ (w * o) % 2 ^ (w * n)) ++ drop m old) all
+      bytes-on i k (v % 2 ^ (w * n)) x old out out′ (t .done)
+      (ap (charsOf 8 k) (ex ∙ here left ∙ sym (field v left (8 * i)) ∙ ap (λ (m : ℕ). v % 2 ^ m / 2 ^ (8 * i)) (t .bits))) e
+      ∙ ap (λ (m : ℕ). charsOf 8 m (v % 2 ^ (w * n)) ++ drop m old) all
       ∙ ap (λ (l : List ℕ). l ++ drop (up w n) old) (sym (packed-chars W s bytes o n))
     where
       all : i + k ≡ up w n

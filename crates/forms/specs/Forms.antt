@@ -6,7 +6,7 @@ use mathlib.Core.Option.{Option, some, none}
 use Prim.Native.Nat.{ℕ, suc, _+_, _-_, _*_, _^_}
 use lib.Dec.{leb, eqb}
 use lib.ListN.{length, take, drop, replicate}
-use Rattle.codes.specs.Codes.{per, up, pick, chars}
+use Rattle.codes.specs.Codes.{per, up, trailing, pick, chars}
 use Rattle.codes.specs.Refusals.{Test, Answer, answer, first, ifDone, tooLong, badView, noRoom}
 use Rattle.codes.specs.Words.{packed}
 use Rattle.codes.specs.declared.refusals.Outcome.{Outcome}
@@ -104,12 +104,12 @@ badForm bs = (not (isForm bs), BadForm)
 
 -- the bytes of a track, 48 zeros, and later bytes as they were
 abbrev pub filledWith : List ℕ → List ℕ → List ℕ
-filledWith track old = track ++ (replicate 48 0 ++ drop (length track + 48) old)
+filledWith track old = track ++ (replicate trailing 0 ++ drop (length track + trailing) old)
 
 -- the refusals of a form to be read into buffers of m and n bytes; room is judged after form
 abbrev pub formTests : List ℕ → ℕ → ℕ → List Test
 formTests form m n =
-    badForm form ∷ noRoom m (up 2 (formLength form) + 48) ∷ noRoom n (up 1 (formLength form) + 48) ∷ []
+    badForm form ∷ noRoom m (up 2 (formLength form) + trailing) ∷ noRoom n (up 1 (formLength form) + trailing) ∷ []
 
 abbrev pub readTests : List ℕ → ℕ → ℕ → List Test
 readTests form m n = tooLong (length form) ∷ tooLong m ∷ tooLong n ∷ formTests form m n

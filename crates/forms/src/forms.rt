@@ -23,8 +23,10 @@ pub fn write(
     flag_len: Chars,
     out: &mut [u8],
 ) -> Wrote
-    ensures answer { λ r. ⌜ wroteSays r ≡ writeAnswer (now (bases .entry)) («base_offset» .0) («base_len» .0) (now (flags .entry)) («flag_offset» .0) («flag_len» .0) (now (out .entry)) ⌝ }
-    ensures bytes { λ _. ⌜ now (out .exit) ≡ writeAfter (now (bases .entry)) («base_offset» .0) («base_len» .0) (now (flags .entry)) («flag_offset» .0) («flag_len» .0) (now (out .entry)) ⌝ }
+    ensures answer { λ r. ⌜ wroteSays r ≡
+        writeAnswer (now (bases .entry)) («base_offset» .0) («base_len» .0) (now (flags .entry)) («flag_offset» .0) («flag_len» .0) (now (out .entry)) ⌝ }
+    ensures bytes { λ _. ⌜ now (out .exit) ≡
+        writeAfter (now (bases .entry)) («base_offset» .0) («base_len» .0) (now (flags .entry)) («flag_offset» .0) («flag_len» .0) (now (out .entry)) ⌝ }
 {
     match write_outcome(
         bases,

@@ -16,5 +16,6 @@ state counts step = record { counts = counts; at = step }
 abbrev pub Part : Type 0
 Part = ℕ × ℕ × ℕ × ℕ
 
-abbrev pub none : Part
-none = (0, 0, 0, 0)
+-- beside a refusal
+abbrev pub noPart : Part
+noPart = (0, 0, 0, 0)

@@ -1,4 +1,3 @@
 pub mod ShapeLaws
 pub mod LaneLaws
-pub mod WriteLaws
 pub mod TurnLaws

@@ -15,16 +15,13 @@ use Rattle.codes.specs.declared.refusals.Refusal.{Refusal}
 use Rattle.codes.specs.declared.refusals.Refusal.the-variants.{BadStream}
 use Rattle.codes.proofs.WidthLaws.{per-pos, per-le}
 use Rattle.codes.proofs.OutcomeLaws.{first-done}
+use Rattle.codes.proofs.RefusalLaws.{neither}
 use Rattle.lanes.specs.Lanes.{multipleAbove, starts, lane, padding, steps, badShape}
 
 -- a test alone that does not hold
 pub not-first : (t : Bool) (r : Refusal) → first ((t, r) ∷ []) ≡ Done → t ≡ false
 not-first true r e = let z : _≡_ {A = ℕ} 0 1 = cc in absurd (omega arith)
 not-first false r e = refl
-
-pub neither : (a b : Bool) → (a || b) ≡ false → (a ≡ false) × (b ≡ false)
-neither true b e = let z : _≡_ {A = ℕ} 0 1 = cc in absurd (omega arith)
-neither false b e = (refl, e)
 
 pub multiple-low : (m n : ℕ) → 0 < m → n ≤ multipleAbove m n
 multiple-low m n h = omega (arith, lt-div-mul-add {a = n + (m - 1)} h)

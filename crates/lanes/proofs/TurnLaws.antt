@@ -8,15 +8,15 @@ use native.Mathlib.Omega.{arith}
 use lib.ListN.{getD}
 use lib.Pow.{pow-pos, pow-mono, shr-shr}
 use Rattle.codes.specs.Codes.{IsWidth, chars}
+use Rattle.codes.specs.Made.{Made}
 use Rattle.codes.specs.Words.{word}
 use Rattle.codes.proofs.FieldLaws.{field-of}
-use Rattle.codes.proofs.WidthLaws.{below-or, width-pos}
+use Rattle.codes.proofs.MadeLaws.{made-join, made-as, made-to}
+use Rattle.codes.proofs.WidthLaws.{below-or, width-pos, whole}
 use Rattle.codes.proofs.WordLaws.{Below}
-use Rattle.fields.proofs.LoadLaws.{whole}
-use Rattle.lanes.specs.Lanes.{laneChar}
-use Rattle.lanes.specs.Written.{Written, Holds, turned}
+use Rattle.lanes.specs.Lanes.{laneEntry}
+use Rattle.lanes.specs.Turns.{Holds, turned}
 use Rattle.lanes.proofs.LaneLaws.{char-past, char-within, laneChar-early, laneChar-late}
-use Rattle.lanes.proofs.WriteLaws.{written-join, written-ext}
 
 module _ {w : ℕ} (W : IsWidth w) (bs : List ℕ) (bytes : Below 8 bs) (o len i : ℕ) where
   pub holds-none : len ≤ i → Holds w (chars w bs o len) i 0
@@ -48,50 +48,39 @@ pub turn-shift : {w : ℕ} → IsWidth w → (t count : ℕ) → t < count → w
 turn-shift {w} W t count h l = omega (arith, width-pos W, mul-suc w t, mul-le-mul-left w h)
 
 -- a turn is written a step at a time
-pub turned-more : (w : ℕ) (words : List ℕ) (e t : ℕ) (x y z : List ℕ) → Written (turned w words e) e (e + 8 * t) x y
-    → Written (λ q. getD words (q - (e + 8 * t)) 0 / 2 ^ (w * t) % 2 ^ w) (e + 8 * t) (e + 8 * t + 8) y z → Written (turned w words e) e (e + 8 * (t + 1)) x z
-turned-more w words e t x y z p q =
-    subst (λ (b : ℕ). Written (turned w words e) e b x z) (next t)
-    (written-join (turned w words e) e (e + 8 * t) (e + 8 * t + 8) x y z (omega arith) (omega arith) p
-    (written-ext (λ q. getD words (q - (e + 8 * t)) 0 / 2 ^ (w * t) % 2 ^ w) (turned w words e) (e + 8 * t) (e + 8 * t + 8) y z
-    (λ i h l. ap₂ (λ (m s : ℕ). getD words m 0 / 2 ^ (w * s) % 2 ^ w) (lane-of i h l) (step-of i h l)) q))
+pub turned-more : (w : ℕ) (words : List ℕ) {e : ℕ} (t : ℕ) {x y z : List ℕ} → Made (turned w words e) e (e + 8 * t) x y
+    → Made (λ q. getD words (q - (e + 8 * t)) 0 / 2 ^ (w * t) % 2 ^ w) (e + 8 * t) (e + 8 * t + 8) y z → Made (turned w words e) e (e + 8 * (t + 1)) x z
+turned-more w words {e} t p q =
+    made-to (made-join p q (omega arith) (omega arith) (λ i h l _. ap₂ (λ (m s : ℕ). getD words m 0 / 2 ^ (w * s) % 2 ^ w) (lane-of i h l) (step-of i h l))) (omega arith)
   where
-    next : (t : ℕ) → e + 8 * t + 8 ≡ e + 8 * (t + 1)
-    next t = omega arith
-
     lane-of : (i : ℕ) → e + 8 * t ≤ i → i < e + 8 * t + 8 → i - (e + 8 * t) ≡ (i - e) % 8
     lane-of i h l = omega arith
 
     step-of : (i : ℕ) → e + 8 * t ≤ i → i < e + 8 * t + 8 → t ≡ (i - e) / 8
     step-of i h l = omega arith
 
--- what entry q of a filled buffer holds
-abbrev pub entry : List ℕ → ℕ → ℕ → ℕ → ℕ
-entry cs n d q = laneChar cs n d (q / 8) (q % 8)
-
 -- zeros before the delay
-pub filled-early : (cs : List ℕ) (n d s : ℕ) (x y : List ℕ) → s ≤ d → Written (λ _. 0) 0 (8 * s) x y → Written (entry cs n d) 0 (8 * s) x y
-filled-early cs n d s x y h = written-ext (λ _. 0) (entry cs n d) 0 (8 * s) x y (λ q _ l. laneChar-early cs n d (q / 8) (q % 8) (omega arith))
+pub filled-early : (cs : List ℕ) (n d s : ℕ) {x y : List ℕ} → s ≤ d → Made (λ j. 0) 0 (8 * s) x y → Made (laneEntry cs n d) 0 (8 * s) x y
+filled-early cs n d s h z = made-as z (λ q _ l. laneChar-early cs n d (q / 8) (q % 8) (omega arith))
 
 -- and then a turn at a time
-pub filled-more : (w : ℕ) (cs : List ℕ) (n d a j count : ℕ) (words x y z : List ℕ) → a ≤ j → d ≤ j → count ≤ 64 / w → ((l : ℕ) → l < 8 → Holds w cs (l * n + (j - d)) (getD words l 0))
-    → Written (entry cs n d) (8 * a) (8 * j) x y → Written (turned w words (8 * j)) (8 * j) (8 * j + 8 * count) y z → Written (entry cs n d) (8 * a) (8 * (j + count)) x z
-filled-more w cs n d a j count words x y z k h m f p q =
-    subst (λ (b : ℕ). Written (entry cs n d) (8 * a) b x z) (sym (mul-add 8 j count))
-    (written-join (entry cs n d) (8 * a) (8 * j) (8 * j + 8 * count) x y z (omega arith) (omega arith) p
-    (written-ext (turned w words (8 * j)) (entry cs n d) (8 * j) (8 * j + 8 * count) y z same q))
-  where
-    at-place : (i : ℕ) → 8 * j ≤ i → i < 8 * j + 8 * count → (i - 8 * j) % 8 * n + (j - d) + (i - 8 * j) / 8 ≡ i % 8 * n + (i / 8 - d)
-    at-place i g l =
-        let a : (i - 8 * j) % 8 ≡ i % 8 = omega arith in
-        let b : j - d + (i - 8 * j) / 8 ≡ i / 8 - d = omega arith in
-        add-assoc ((i - 8 * j) % 8 * n) (j - d) ((i - 8 * j) / 8) ∙ ap₂ (λ (u v : ℕ). u * n + v) a b
+module _ (w : ℕ) (cs : List ℕ) (n d j count : ℕ) (words : List ℕ) (late : d ≤ j) (few : count ≤ 64 / w)
+    (holds : (l : ℕ) → l < 8 → Holds w cs (l * n + (j - d)) (getD words l 0)) where
+  turned-is : (i : ℕ) → 8 * j ≤ i → i < 8 * j + 8 * count → turned w words (8 * j) i ≡ laneEntry cs n d i
+  turned-is i g l =
+      holds ((i - 8 * j) % 8) (omega arith) ((i - 8 * j) / 8) (omega arith)
+      ∙ ap (λ (k : ℕ). getD cs k 0) place
+      ∙ laneChar-late cs n d (i / 8) (i % 8) (omega arith)
+    where
+      place : (i - 8 * j) % 8 * n + (j - d) + (i - 8 * j) / 8 ≡ i % 8 * n + (i / 8 - d)
+      place =
+          let a : (i - 8 * j) % 8 ≡ i % 8 = omega arith in
+          let b : j - d + (i - 8 * j) / 8 ≡ i / 8 - d = omega arith in
+          add-assoc ((i - 8 * j) % 8 * n) (j - d) ((i - 8 * j) / 8) ∙ ap₂ (λ (u v : ℕ). u * n + v) a b
 
-    same : (i : ℕ) → 8 * j ≤ i → i < 8 * j + 8 * count → turned w words (8 * j) i ≡ entry cs n d i
-    same i g l =
-        f ((i - 8 * j) % 8) (omega arith) ((i - 8 * j) / 8) (omega arith)
-        ∙ ap (λ (k : ℕ). getD cs k 0) (at-place i g l)
-        ∙ laneChar-late cs n d (i / 8) (i % 8) (omega arith)
+  pub filled-more : {a : ℕ} {x y z : List ℕ} → Made (laneEntry cs n d) (8 * a) (8 * j) x y → Made (turned w words (8 * j)) (8 * j) (8 * j + 8 * count) y z → a ≤ j
+      → Made (laneEntry cs n d) (8 * a) (8 * (j + count)) x z
+  filled-more p q h = made-to (made-join p q (omega arith) (omega arith) (λ i g l _. turned-is i g l)) (omega arith)
 
 pub width-turn : {w : ℕ} → IsWidth w → 0 < 64 / w
 width-turn {w} W = below-or 0 (64 / w) (λ h. h) (λ h. let e : 64 / w ≡ 0 = omega arith in let z : 64 ≡ w * 0 = sym (whole W 8) ∙ ap (λ (x : ℕ). w * x) e in absurd (omega arith))

@@ -52,6 +52,10 @@ laneChar cs n d j l = pick (ltb j d) 0 (getD cs (l * n + (j - d)) 0)
 unfoldable pub lanes : List ℕ → ℕ → ℕ → ℕ → List ℕ
 lanes cs n d j = tab 8 (laneChar cs n d j)
 
--- filling writes step j, lane l to entry 8 j + l; later entries stay
+-- filling writes step j, lane l to entry 8 j + l
+abbrev pub laneEntry : List ℕ → ℕ → ℕ → ℕ → ℕ
+laneEntry cs n d q = laneChar cs n d (q / 8) (q % 8)
+
+-- later entries stay
 unfoldable pub filled : List ℕ → ℕ → ℕ → ℕ → List ℕ → List ℕ
-filled cs n d count out = tab (8 * count) (λ e. laneChar cs n d (e / 8) (e % 8)) ++ drop (8 * count) out
+filled cs n d count out = tab (8 * count) (laneEntry cs n d) ++ drop (8 * count) out

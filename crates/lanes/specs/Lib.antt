@@ -1,3 +1,3 @@
 pub mod Lanes
 pub mod Plans
-pub mod Written
+pub mod Turns

@@ -11,7 +11,7 @@ use lib.Arith.{le-zero}
 use lib.Dec.{ltb, leb·suc-suc}
 use lib.ListN.{length, getD}
 use borrow.Author.Tests.{lt-ltb, le-ltb, eq-eqb, ne-eqb}
-use Rattle.codes.specs.Codes.{IsWidth, per, pick, charAt, chars}
+use Rattle.codes.specs.Codes.{IsWidth, per, pick, charAt, chars, trailing}
 use Rattle.codes.specs.Refusals.{first}
 use Rattle.codes.specs.declared.refusals.Outcome.the-variants.{Done}
 use Rattle.codes.specs.declared.refusals.Refusal.the-variants.{TooLong, BadView}
@@ -80,7 +80,7 @@ unequal-lengths w s o al t o′ bl n = other (pairOrder w s o al t o′ bl) (λ 
 
 -- where two views are not refused, neither is
 pub pair-views : (w m ao al n bo bl : ℕ) → first (pairTests w m ao al n bo bl) ≡ Done → (first (viewTests w m ao al) ≡ Done) × (first (viewTests w n bo bl) ≡ Done)
-pair-views w m ao al n bo bl e = apart (ltb (2 ^ 28) m) (ltb (2 ^ 28) n) (ltb (m * per w) (ao + al + 48 * per w)) (ltb (n * per w) (bo + bl + 48 * per w)) e
+pair-views w m ao al n bo bl e = apart (ltb (2 ^ 28) m) (ltb (2 ^ 28) n) (ltb (m * per w) (ao + al + trailing * per w)) (ltb (n * per w) (bo + bl + trailing * per w)) e
   where
     apart : (a b c d : Bool) → first ((a, TooLong) ∷ (b, TooLong) ∷ (c, BadView) ∷ (d, BadView) ∷ []) ≡ Done
         → (first ((a, TooLong) ∷ (c, BadView) ∷ []) ≡ Done) × (first ((b, TooLong) ∷ (d, BadView) ∷ []) ≡ Done)

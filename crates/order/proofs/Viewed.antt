@@ -8,7 +8,7 @@ use Prim.Native.Nat.{ℕ, _+_, _-_, _*_, _%_, _^_}
 use lib.Dec.{ltb}
 use lib.IntN.{pos}
 use lib.ListN.{length}
-use Rattle.codes.specs.Codes.{IsWidth, per, chars, pick}
+use Rattle.codes.specs.Codes.{IsWidth, per, chars, pick, trailing}
 use Rattle.codes.specs.Refusals.{answer, first, ifDone, numberOf}
 use Rattle.codes.specs.declared.refusals.Outcome.{Outcome}
 use Rattle.codes.specs.declared.refusals.Outcome.the-variants.{Done}
@@ -25,9 +25,9 @@ use Rattle.views.proofs.Viewed.{Same}
 pair-done : (w m ao al n bo bl : ℕ) → first (viewTests w m ao al) ≡ Done → first (viewTests w n bo bl) ≡ Done → first (pairTests w m ao al n bo bl) ≡ Done
 pair-done w m ao al n bo bl e f =
     let p = passed (ltb (2 ^ 28) m) _ _ e in
-    let q = passed (ltb (m * per w) (ao + al + 48 * per w)) _ _ (p .1) in
+    let q = passed (ltb (m * per w) (ao + al + trailing * per w)) _ _ (p .1) in
     let r = passed (ltb (2 ^ 28) n) _ _ f in
-    let s = passed (ltb (n * per w) (bo + bl + 48 * per w)) _ _ (r .1) in
+    let s = passed (ltb (n * per w) (bo + bl + trailing * per w)) _ _ (r .1) in
     simp (p .0, q .0, r .0, s .0)
 
 -- the part that comes first is an accepted view, with the characters of the view that does

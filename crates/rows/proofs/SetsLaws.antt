@@ -1,19 +1,14 @@
--- Bytes stored one after another are stored together.
+-- Texts put into a buffer, one after another.
 -- Assumes nothing.
 use mathlib.Core.List.{List, [], _∷_, _++_}
 use mathlib.Core.Path.{_≡_, sym, ap, ap₂, _∙_}
-use Prim.Native.Nat.{ℕ, suc, _+_, _<_}
-use native.Mathlib.Nat.{add-zero, add-suc, suc-add}
+use Prim.Native.Nat.{ℕ, _+_, _<_}
 use native.Mathlib.Numerals.{add-one}
 use native.Mathlib.Omega.{arith}
 use lib.ListN.{length, take, getD, set, length-append}
 use lib.Seq.{sets, length-sets, take-suc, length-take-le}
+use Rattle.writes.proofs.WriteLaws.{sets-append}
 use Rattle.rows.specs.Columns.{Put}
-
-pub sets-append : (a b d : List ℕ) (i : ℕ) → sets (sets d i a) (i + length a) b ≡ sets d i (a ++ b)
-sets-append [] b d i = ap (λ (k : ℕ). sets d k b) (add-zero i)
-sets-append (c ∷ a) b d i =
-    ap (λ (k : ℕ). sets (sets (set d i c) (suc i) a) k b) (add-suc i (length a) ∙ sym (suc-add i (length a))) ∙ sets-append a b (set d i c) (suc i)
 
 -- one more of a text's bytes
 pub sets-take : (d text : List ℕ) (at i : ℕ) → i < length text → set (sets d at (take i text)) (at + i) (getD text i 0) ≡ sets d at (take (i + 1) text)

@@ -8,14 +8,14 @@ use native.Mathlib.Omega.{arith}
 use borrow.Author.Tests.{le-ltb}
 use lib.IntN.{pos}
 use lib.ListN.{length, getD, length-map, length-reverse, List·getD-append}
-use Rattle.codes.specs.Codes.{IsWidth, per, up, charAt, chars, complement}
+use Rattle.codes.specs.Codes.{IsWidth, per, up, trailing, charAt, chars, complement}
 use Rattle.codes.specs.Refusals.{answer, ifDone}
 use Rattle.codes.specs.Words.{packed}
 use Rattle.codes.specs.declared.refusals.Outcome.{Outcome}
 use Rattle.codes.specs.declared.refusals.Outcome.the-variants.{Done, Refused}
 use Rattle.codes.specs.declared.refusals.Refusal.{Refusal}
 use Rattle.codes.proofs.CharLaws.{length-chars, chars-ext, chars-fit, length-pack, unpacked}
-use Rattle.codes.proofs.CodeLaws.{complement-lt}
+use Rattle.codes.proofs.CodeLaws.{complement-fits}
 use Rattle.codes.proofs.RefusalLaws.{says-once}
 use Rattle.codes.proofs.WidthLaws.{width-2, per-pos}
 use Rattle.codes.proofs.WordLaws.{Below, Below-reverse, Below-through}
@@ -43,12 +43,12 @@ module _ (bs other : List ℕ) (n : ℕ) (h : n ≤ 16384) (lb : length bs ≡ 4
   long = length-reverse (map (complement 2) cs) ∙ length-map cs (complement 2) ∙ length-chars 2 bs 0 n
 
   fits : Below 2 (flipped 2 cs)
-  fits = Below-reverse 2 (map (complement 2) cs) (Below-through 2 (complement 2) complement-lt cs (chars-fit 2 bs 0 n))
+  fits = Below-reverse 2 (map (complement 2) cs) (Below-through 2 (complement 2) (complement-fits 2) cs (chars-fit 2 bs 0 n))
 
   flip-done : flipOutcome 2 bs 0 n other ≡ Done
   unfolding flipOutcome
   flip-done =
-      rw (le-ltb (2 ^ 28) (length bs) (omega arith), le-ltb (length bs * 4) (0 + n + 48 * 4) (omega arith), le-ltb (length other) (up 2 n + 48) (omega arith))
+      rw (le-ltb (2 ^ 28) (length bs) (omega arith), le-ltb (length bs * 4) (0 + n + trailing * 4) (omega arith), le-ltb (length other) (up 2 n + trailing) (omega arith))
 
   packed-long : length (packed 2 (flipped 2 cs)) ≡ up 2 n
   unfolding packed
@@ -66,8 +66,8 @@ module _ (bs other : List ℕ) (n : ℕ) (h : n ≤ 16384) (lb : length bs ≡ 4
       rw (
         le-ltb (2 ^ 28) (length bs) (omega arith),
         le-ltb (2 ^ 28) (length other′) (omega arith),
-        le-ltb (length bs * 4) (0 + n + 48 * 4) (omega arith),
-        le-ltb (length other′ * 4) (0 + n + 48 * 4) (omega arith),
+        le-ltb (length bs * 4) (0 + n + trailing * 4) (omega arith),
+        le-ltb (length other′ * 4) (0 + n + trailing * 4) (omega arith),
       )
 
   -- z is the offset, m the length

@@ -1,4 +1,3 @@
-pub mod RunLaws
 pub mod WholeLaws
 pub mod SpliceLaws
 pub mod FreshLaws

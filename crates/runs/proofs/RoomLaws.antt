@@ -6,7 +6,7 @@ use native.Mathlib.Nat.{le-refl, le-trans, le-div-iff-mul-le, div-mul-le-self}
 use native.Mathlib.Omega.{arith}
 use Rattle.codes.specs.Codes.{IsWidth, per, up}
 use Rattle.codes.proofs.WidthLaws.{per-pos, up-hi, up-mono, chars-bound}
-use Rattle.runs.specs.Runs.{Bounded}
+use Rattle.runs.specs.Bytes.{Bounded}
 use Rattle.runs.specs.declared.inner.bounds.Bounds.{Bounds}
 
 module _ {w : ℕ} (W : IsWidth w) where

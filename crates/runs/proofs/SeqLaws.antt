@@ -11,11 +11,13 @@ use lib.Pow.{pow-pos, pow-mono}
 use lib.Seq.{getD-append-add}
 use Rattle.codes.specs.Codes.{IsWidth, per, up, charAt, chars}
 use Rattle.codes.specs.Words.{word}
-use Rattle.codes.proofs.CharLaws.{length-chars, getD-chars, charAt-lt, byte-charAt}
-use Rattle.codes.proofs.TabLaws.{tab-ext}
+use Rattle.codes.proofs.CharLaws.{length-chars, getD-chars, chars-fit, byte-charAt}
+use Rattle.codes.proofs.CodeLaws.{pick-lt}
+use Rattle.codes.proofs.TabLaws.{tab-ext, Below-getD}
 use Rattle.codes.proofs.WidthLaws.{below-or, per-pos, width-pos, up-hi, up-above}
-use Rattle.runs.specs.Runs.{freshChar, freshByte, seqChars, seqStart, gapChar}
-use Rattle.runs.proofs.SpliceLaws.{splice-new, pick-lt}
+use Rattle.runs.specs.Bytes.{freshChar, freshByte}
+use Rattle.runs.specs.Runs.{seqChars, seqStart, gapChar}
+use Rattle.runs.proofs.SpliceLaws.{splice-new}
 
 pub getD-right : (xs ys : List ℕ) (i : ℕ) → length xs ≤ i → getD (xs ++ ys) i 0 ≡ getD ys (i - length xs) 0
 getD-right xs ys i h = ap (λ (x : ℕ). getD (xs ++ ys) x 0) (omega arith) ∙ getD-append-add xs ys (i - length xs) 0
@@ -30,12 +32,6 @@ module _ {w : ℕ} (W : IsWidth w) where
       below-or i n
       (λ h. rw (getD-replicate n i (gapChar w) 0 h) (lt-of-lt-of-le {m = 2} (pick-lt (eqb w 1) 1 0 2 (lit< tt) (lit< tt)) (pow-mono {i = 1} (width-pos W))))
       (λ h. rw (List·getD-eq-default (replicate n (gapChar w)) 0 {n = i} (omega (arith, length-replicate n (gapChar w)))) (pow-pos w))
-
-  pub chars-lt : (bs : List ℕ) (o n i : ℕ) → getD (chars w bs o n) i 0 < 2 ^ w
-  chars-lt bs o n i =
-      below-or i n
-      (λ h. rw (getD-chars w bs o n i h) (charAt-lt w bs (o + i)))
-      (λ h. rw (List·getD-eq-default (chars w bs o n) 0 {n = i} (omega (arith, length-chars w bs o n))) (pow-pos w))
 
 module _ {w : ℕ} (W : IsWidth w) (len : ℕ) (vs : List ℕ) (o n : ℕ) where
   abbrev st : ℕ
@@ -69,7 +65,7 @@ module _ {w : ℕ} (W : IsWidth w) (len : ℕ) (vs : List ℕ) (o n : ℕ) where
   seq-lt i =
       below-or i (length gap)
       (λ h. rw (List·getD-append gap (chars w vs o n) 0 i h) (gap-lt W (st - len) i))
-      (λ h. rw (getD-right gap (chars w vs o n) i h) (chars-lt W vs o n (i - length gap)))
+      (λ h. rw (getD-right gap (chars w vs o n) i h) (Below-getD w (chars w vs o n) (chars-fit w vs o n) (i - length gap)))
 
   pub seq-end : len + length cs ≡ st + n
   seq-end = omega (arith, start-hi, length-append gap (chars w vs o n), gap-long, length-chars w vs o n)

@@ -1,6 +1,5 @@
 -- The laws of a splice of characters, place by place.
 -- Assumes nothing.
-use mathlib.Core.Bool.{Bool, true, false}
 use mathlib.Core.List.{List, [], _∷_, map}
 use mathlib.Core.Path.{_≡_, refl, sym, subst}
 use Prim.Native.Nat.{ℕ, zero, suc, _-_, _^_, _≤_, _<_}
@@ -9,14 +8,10 @@ use borrow.Author.Tests.{lt-ltb, le-ltb}
 use lib.Dec.{ltb}
 use lib.ListN.{length, getD, length-map, List·getD-eq-default}
 use lib.Pow.{pow-pos}
-use Rattle.codes.specs.Codes.{IsWidth, pick, code}
-use Rattle.codes.proofs.CodeLaws.{code-lt}
+use Rattle.codes.specs.Codes.{IsWidth, code}
+use Rattle.codes.proofs.CodeLaws.{pick-lt, code-lt}
 use Rattle.codes.proofs.WidthLaws.{below-or}
 use Rattle.runs.specs.Runs.{splice}
-
-pub pick-lt : (t : Bool) (x y m : ℕ) → x < m → y < m → pick t x y < m
-pick-lt true x y m h l = h
-pick-lt false x y m h l = l
 
 module _ (f : ℕ → ℕ) (at : ℕ) (cs : List ℕ) (stop : ℕ) where
   pub splice-old : (i : ℕ) → i < at → splice f at cs stop i ≡ f i

@@ -1,16 +1,17 @@
 -- The laws of bytes of letters alone: a word of letters is made of the words of its two halves.
 -- Assumes nothing.
 use mathlib.Core.List.{List}
-use mathlib.Core.Path.{_≡_, sym, ap, ap₂, _∙_, subst}
+use mathlib.Core.Path.{_≡_, sym, ap, ap₂, _∙_}
 use Prim.Native.Nat.{ℕ, _+_, _*_, _^_, _<_}
 use native.Mathlib.Nat.{add-assoc, add-comm, add-zero, zero-mul, zero-add}
 use lib.ListN.{getD}
 use Rattle.codes.specs.Codes.{IsWidth, tab, code}
 use Rattle.codes.specs.Words.{word}
 use Rattle.codes.proofs.CodeLaws.{code-lt}
-use Rattle.codes.proofs.TabLaws.{length-tab, tab-ext, tab-append, Below-tab}
-use Rattle.codes.proofs.WordLaws.{word-append, word-lt}
-use Rattle.runs.specs.Runs.{lettersWord}
+use Rattle.codes.proofs.TabLaws.{length-tab, tab-ext, tab-append}
+use Rattle.codes.proofs.WordLaws.{word-append}
+use Rattle.runs.specs.Bytes.{lettersWord}
+use Rattle.runs.proofs.FreshLaws.{word-tab-lt}
 
 module _ (w : ℕ) (ls : List ℕ) where
   pub letters-one : (i : ℕ) → lettersWord w 1 ls i ≡ code w (getD ls i 0)
@@ -28,6 +29,4 @@ module _ (w : ℕ) (ls : List ℕ) where
 
 pub letters-lt : {w : ℕ} → IsWidth w → (n : ℕ) (ls : List ℕ) (i : ℕ) → lettersWord w n ls i < 2 ^ (w * n)
 unfolding lettersWord
-letters-lt {w} W n ls i =
-    let f : ℕ → ℕ = λ k. code w (getD ls (i + k) 0) in
-    subst (λ (e : ℕ). word w (tab n f) < 2 ^ (w * e)) (length-tab n f) (word-lt w (tab n f) (Below-tab w n f (λ k. code-lt W (getD ls (i + k) 0))))
+letters-lt {w} W n ls i = word-tab-lt w n (λ k. code w (getD ls (i + k) 0)) (λ k. code-lt W (getD ls (i + k) 0))

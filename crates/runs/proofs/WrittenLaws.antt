@@ -8,13 +8,13 @@ use native.Mathlib.Omega.{arith}
 use lib.Arith.{digits-lt}
 use lib.ListN.{length, getD, List·getD-eq-default}
 use lib.Seq.{ext-getD}
-use Rattle.codes.specs.Codes.{IsWidth, per, up, charAt, tab}
-use Rattle.codes.specs.Words.{word, pack}
-use Rattle.codes.specs.Zeros.{Zeroed}
+use Rattle.codes.specs.Codes.{IsWidth, per, up, trailing, charAt, tab}
+use Rattle.codes.specs.Made.{Made}
+use Rattle.codes.specs.Words.{word}
 use Rattle.codes.proofs.CharLaws.{getD-pack, length-pack}
 use Rattle.codes.proofs.TabLaws.{tab-ext}
 use Rattle.codes.proofs.WidthLaws.{below-or, up-above}
-use Rattle.runs.specs.Runs.{splice, written}
+use Rattle.runs.specs.Runs.{splice, spliced, written}
 use Rattle.runs.proofs.SpliceLaws.{splice-old, splice-new, splice-far}
 
 pub word-zeros : (w n : ℕ) → word w (tab n (λ k. 0)) ≡ 0
@@ -31,19 +31,19 @@ module _ {w : ℕ} (W : IsWidth w) (d : List ℕ) (at : ℕ) (cs : List ℕ) whe
   near = splice (charAt w d) at cs (last * per w)
 
   abbrev far : ℕ → ℕ
-  far = splice (charAt w d) at cs ((last + 48) * per w)
+  far = splice (charAt w d) at cs ((last + trailing) * per w)
 
   before-last : (i : ℕ) → i < last * per w → near i ≡ far i
   before-last i h =
       below-or i at
       (λ l. splice-old (charAt w d) at cs _ i l ∙ sym (splice-old (charAt w d) at cs _ i l))
-      (λ l. splice-new (charAt w d) at cs _ i l h ∙ sym (splice-new (charAt w d) at cs _ i l (omega (arith, add-mul last 48 (per w)))))
+      (λ l. splice-new (charAt w d) at cs _ i l h ∙ sym (splice-new (charAt w d) at cs _ i l (omega (arith, add-mul last trailing (per w)))))
 
-  behind : (i : ℕ) → (last + 48) * per w ≤ i → near i ≡ far i
-  behind i h = splice-far (charAt w d) at cs _ i (omega (arith, add-mul last 48 (per w))) ∙ sym (splice-far (charAt w d) at cs _ i h)
+  behind : (i : ℕ) → (last + trailing) * per w ≤ i → near i ≡ far i
+  behind i h = splice-far (charAt w d) at cs _ i (omega (arith, add-mul last trailing (per w))) ∙ sym (splice-far (charAt w d) at cs _ i h)
 
   -- a zero byte between
-  pub written-zeros : (j : ℕ) → last ≤ j → j < last + 48 → word w (tab (per w) (λ k. far (j * per w + k))) ≡ 0
+  pub written-zeros : (j : ℕ) → last ≤ j → j < last + trailing → word w (tab (per w) (λ k. far (j * per w + k))) ≡ 0
   written-zeros j h l =
       ap (word w) (tab-ext (per w) (λ k. far (j * per w + k)) (λ k. 0)
       (λ k m.
@@ -51,17 +51,21 @@ module _ {w : ℕ} (W : IsWidth w) (d : List ℕ) (at : ℕ) (cs : List ℕ) whe
       splice-new (charAt w d) at cs _ (j * per w + k) (omega arith) (digits-lt l m) ∙ List·getD-eq-default cs 0 (omega arith)))
       ∙ word-zeros w (per w)
 
-  pub zeroed-written : (e x : List ℕ) → e ≡ pack w (length d) near → Zeroed e last (last + 48) x → x ≡ written w d at cs
+  pub made-written : {e x : List ℕ} → Made (λ j. 0) last (last + trailing) e x → e ≡ spliced w d at cs (last * per w) → x ≡ written w d at cs
   unfolding written
-  zeroed-written e x p z =
+  made-written {e} {x} z p =
       let le : length e ≡ length d = ap length p ∙ length-pack w (length d) near in
       ext-getD 0 x (written w d at cs) (z .long ∙ le ∙ sym (length-pack w (length d) far))
       (λ j l.
       let m : j < length d = omega (arith, z .long) in
       let old : getD e j 0 ≡ word w (tab (per w) (λ k. near (j * per w + k))) = ap (λ (y : List ℕ). getD y j 0) p ∙ getD-pack w (length d) near j m in
       below-or j last
-      (λ h. z .below j h ∙ old ∙ ap (word w) (tab-ext (per w) (λ k. near (j * per w + k)) (λ k. far (j * per w + k)) (λ k u. before-last (j * per w + k) (digits-lt h u))))
-      (λ h. below-or j (last + 48)
-      (λ n. z .zeros j h n ∙ sym (written-zeros j h n))
-      (λ n. z .above j n ∙ old ∙ ap (word w) (tab-ext (per w) (λ k. near (j * per w + k)) (λ k. far (j * per w + k)) (λ k u. behind (j * per w + k) (omega (arith, mul-le-mul-right (per w) n))))))
+      (λ h. z .below j h ∙ old ∙ as-far j (λ k u. before-last (j * per w + k) (digits-lt h u)))
+      (λ h. below-or j (last + trailing)
+      (λ n. z .new j h n ∙ sym (written-zeros j h n))
+      (λ n. z .above j n ∙ old ∙ as-far j (λ k u. behind (j * per w + k) (omega (arith, mul-le-mul-right (per w) n)))))
       ∙ sym (getD-pack w (length d) far j m))
+    where
+      as-far : (j : ℕ) → ((k : ℕ) → k < per w → near (j * per w + k) ≡ far (j * per w + k))
+          → word w (tab (per w) (λ k. near (j * per w + k))) ≡ word w (tab (per w) (λ k. far (j * per w + k)))
+      as-far j h = ap (word w) (tab-ext (per w) (λ k. near (j * per w + k)) (λ k. far (j * per w + k)) h)

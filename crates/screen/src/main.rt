@@ -1,14 +1,15 @@
 // FASTA from standard input, the table of its records to standard output. A read or a write that fails ends the run, and standard
 // error says which.
-mod report;
-
+use fasta::feeds::Fed;
+use fasta::feeds::Then;
+use fasta::feeds::feed;
+use fasta::feeds::feed_end;
 use fasta::reader::BASES;
 use fasta::reader::FLAGS;
-use report::Next;
-use report::Run;
-use report::end_report;
-use report::read_on;
-use report::start_report;
+use fasta::reader::Reader;
+use fasta::reader::start;
+ghost use Prim.Native.Nat.{_≤_};
+ghost use lib.ListN.{length};
 
 fn main() {
     let mut buffer = [0u8; 4096];
@@ -16,67 +17,84 @@ fn main() {
     let mut bases = [0u8; BASES];
     let mut flags = [0u8; FLAGS];
     let mut other = [0u8; BASES];
-    let begun = start_report(&mut text);
-    let run = read_all(
-        begun,
-        &mut buffer,
-        &mut bases,
-        &mut flags,
-        &mut other,
-        &mut text,
-    );
-    end_report(run, &bases, &flags, &mut other, &mut text);
+    run(&mut buffer, &mut text, &mut bases, &mut flags, &mut other);
 }
 
-// A proved loop has to end, and nothing says that the input does: the turns count down from a number that no run uses up.
-fn read_all(
-    begun: Run,
-    buffer: &mut [u8; 4096],
+// Does what the last feed left to do, and feeds again. A proved loop has to end, and nothing says that the input does: the turns count
+// down from a number that no run uses up.
+fn run(
+    buffer: &mut [u8],
+    text: &mut [u8; 4096],
     bases: &mut [u8; BASES],
     flags: &mut [u8; FLAGS],
     other: &mut [u8; BASES],
-    text: &mut [u8; 4096],
-) -> Run {
-    let mut run = begun;
+) {
+    let begun = start(text);
+    let mut reader = begun.reader;
+    let mut filled = begun.wrote;
+    let mut then = Then::Read;
+    let mut at: usize = 0;
+    let mut n: usize = 0;
     let mut turns = u64::MAX;
     while 0 < turns {
-        run = read_some(run, buffer, bases, flags, other, text);
-        let next = run.next;
-        let Next::Read = next else {
-            return run;
-        };
+        match then {
+            Then::Read => {
+                let got = libc::read(libc::STDIN_FILENO, buffer);
+                if got < 0 {
+                    os::fail(b"read");
+                    put(text, filled);
+                    return;
+                }
+                at = 0;
+                n = io::count(got, buffer);
+            }
+            Then::Write => {
+                if !put(text, filled) {
+                    return;
+                }
+                filled = 0;
+            }
+            Then::Stop => {
+                put(text, filled);
+                return;
+            }
+        }
+        let fed = feed_rest(reader, &buffer[at..n], bases, flags, other, text, filled);
+        reader = fed.reader;
+        filled = fed.filled;
+        then = fed.then;
+        at += fed.used;
         turns -= 1;
     }
-    run
 }
 
-// Reads once, and hands the filled part of the buffer on.
-fn read_some(
-    run: Run,
-    buffer: &mut [u8],
+// Nothing is left of the part only where nothing was read: at the end of the input.
+fn feed_rest(
+    reader: Reader,
+    part: &[u8],
     bases: &mut [u8; BASES],
     flags: &mut [u8; FLAGS],
     other: &mut [u8; BASES],
-    text: &mut [u8; 4096],
-) -> Run {
-    let reader = run.reader;
-    let filled = run.filled;
-    let got = libc::read(libc::STDIN_FILENO, buffer);
-    if got < 0 {
-        os::fail(b"read");
-        return Run {
-            reader,
-            filled,
-            next: Next::Stop,
-        };
+    text: &mut [u8],
+    filled: usize,
+) -> Fed
+    requires { ⌜ filled ≤ length (now text) ⌝ }
+    ensures used { λ r. ⌜ r .used ≤ length (now (part .entry)) ⌝ }
+    ensures filled { λ r. ⌜ r .filled ≤ length (now (text .entry)) ⌝ }
+{
+    if part.len() == 0 {
+        return feed_end(reader, bases, flags, other, text, filled);
     }
-    if got == 0 {
-        return Run {
-            reader,
-            filled,
-            next: Next::Finish,
-        };
+    feed(reader, part, bases, flags, other, text, filled)
+}
+
+// Writes the bytes in use to standard output, or says that it cannot.
+fn put(text: &[u8], filled: usize) -> bool
+    requires { ⌜ filled ≤ length (now text) ⌝ }
+{
+    let is_written = io::write_all(libc::STDOUT_FILENO, &text[..filled]);
+    if !is_written {
+        os::fail(b"write");
     }
-    let n = io::count(got, buffer);
-    read_on(run, &buffer[..n], bases, flags, other, text)
+    is_written
 }

@@ -5,26 +5,23 @@
 use mathlib.Core.List.{List, []}
 use mathlib.Core.Path.{_≡_, ap, _∙_}
 use Prim.Native.Nat.{ℕ}
-use lib.ListN.{length, take, drop, replicate}
-use Rattle.codes.specs.Codes.{IsWidth, up, chars}
-use Rattle.codes.specs.Words.{packed}
+use lib.ListN.{length}
+use Rattle.codes.specs.Codes.{IsWidth, chars}
 use Rattle.codes.specs.declared.refusals.Outcome.the-variants.{Done}
-use Rattle.stores.specs.History.{Store, step, run}
+use Rattle.stores.specs.History.{Packed, step, run}
 use Rattle.stores.specs.History as Histories
 use Rattle.stores.specs.Stores.{Call, clear, outcome}
 use Rattle.stores.proofs.HistoryLaws.{history-kept}
 use Rattle.stores.proofs.HoldLaws.{held-packed, held-zeros, held-chars}
 
--- a store of m bytes that holds the characters h
-pub record Packed (w m : ℕ) (s : Store) (h : List ℕ) : Type 0 where
-  pub length-is : s .len ≡ length h
-  pub bytes-are : take (up w (length h)) (s .bytes) ≡ packed w h
-  pub zeros-behind : take 48 (drop (up w (length h)) (s .bytes)) ≡ replicate 48 0
-  pub chars-are : chars w (s .bytes) 0 (s .len) ≡ h
-  pub size-kept : length (s .bytes) ≡ m
-
 pub history : {w : ℕ} → IsWidth w → (bs : List ℕ) (old : ℕ) → outcome w (length bs) 0 clear ≡ Done → (cs : List Call)
     → Packed w (length bs) (run w (step w (record { bytes = bs; len = old }) clear) cs) (Histories.history w (length bs) [] cs)
 history {w} W bs old e cs =
     let K = history-kept W bs old e cs in
-    record { length-is = K .lengths; bytes-are = held-packed W _ _ (K .holds); zeros-behind = held-zeros W _ _ (K .holds); chars-are = ap (chars w _ 0) (K .lengths) ∙ held-chars W _ _ (K .holds); size-kept = K .size }
+    record {
+      length-is = K .lengths;
+      bytes-are = held-packed W _ _ (K .holds);
+      zeros-behind = held-zeros W _ _ (K .holds);
+      chars-are = ap (chars w _ 0) (K .lengths) ∙ held-chars W _ _ (K .holds);
+      size-kept = K .size;
+    }

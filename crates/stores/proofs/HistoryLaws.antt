@@ -8,24 +8,23 @@ use native.Mathlib.Omega.{arith}
 use borrow.Author.Tests.{le-ltb, ltb-false}
 use lib.ListN.{length, length-map}
 use lib.Pow.{pow-pos}
-use Rattle.codes.specs.Codes.{IsWidth, up, code}
+use Rattle.codes.specs.Codes.{IsWidth, up, trailing, code}
 use Rattle.codes.specs.Refusals.{ifDone}
-use Rattle.codes.specs.declared.refusals.Outcome.{Outcome}
 use Rattle.codes.specs.declared.refusals.Outcome.the-variants.{Done, Refused}
 use Rattle.codes.specs.declared.refusals.Refusal.{Refusal}
 use Rattle.codes.proofs.CharLaws.{length-pack}
 use Rattle.codes.proofs.WidthLaws.{up-le, up-mono}
 use Rattle.stores.specs.History.{Store, step, run, charsAfter, history}
-use Rattle.stores.specs.Stores.{Call, clear, pushAscii, pushSeq, overwrite, cut, tests, outcome, Edit, still, deed, edit, bufferAfter, lengthAfter, span, oldLength, answered, after}
+use Rattle.stores.specs.Stores.{Call, clear, pushAscii, pushSeq, overwrite, cut, tests, outcome, still, deed, edit, bufferAfter, lengthAfter, span, oldLength, answered, after}
 use Rattle.runs.specs.Runs.{written, seqChars}
-use Rattle.stores.proofs.CallLaws.{Passed, done-passed}
+use Rattle.stores.proofs.CallLaws.{Passed, done-passed, by-outcome}
 use Rattle.stores.proofs.HoldLaws.{Holds, Good, good-still, good-from, good-over, from-holds}
 use Rattle.runs.proofs.SeqLaws.{seq-lt, seq-end}
 use Rattle.runs.proofs.SpliceLaws.{codes-lt}
 
-pub clear-done : (w m len : ℕ) → m ≤ 2 ^ 28 → 48 ≤ m → Done ≡ outcome w m len clear
+pub clear-done : (w m len : ℕ) → m ≤ 2 ^ 28 → trailing ≤ m → Done ≡ outcome w m len clear
 unfolding outcome
-clear-done w m len hi lo = rw (le-ltb (2 ^ 28) m hi, le-ltb m 48 lo)
+clear-done w m len hi lo = rw (le-ltb (2 ^ 28) m hi, le-ltb m trailing lo)
 
 module _ {w : ℕ} (W : IsWidth w) where
   -- the length that a call which is done answers
@@ -50,24 +49,21 @@ module _ {w : ℕ} (W : IsWidth w) where
     deed-good (pushAscii []) p = good-still W bs h H
     deed-good (pushAscii (l ∷ ls)) p =
         good-from W bs h H len (map (code w) (l ∷ ls)) (codes-lt W (l ∷ ls)) (le-refl len)
-        (subst (λ (x : ℕ). up w (len + x) + 48 ≤ m) (sym (length-map (l ∷ ls) (code w))) (ltb-false _ _ (p .1 .1 .0)))
+        (subst (λ (x : ℕ). up w (len + x) + trailing ≤ m) (sym (length-map (l ∷ ls) (code w))) (ltb-false _ _ (p .1 .1 .0)))
     deed-good (pushSeq vs o n) p =
         good-from W bs h H len (seqChars w len vs o n) (seq-lt W len vs o n) (le-refl len)
-        (subst (λ (x : ℕ). up w x + 48 ≤ m) (sym (seq-end W len vs o n)) (ltb-false _ _ (p .1 .1 .1 .1 .0)))
+        (subst (λ (x : ℕ). up w x + trailing ≤ m) (sym (seq-end W len vs o n)) (ltb-false _ _ (p .1 .1 .1 .1 .0)))
     deed-good (overwrite at ls) p =
         good-over W bs h H at (map (code w) ls) (codes-lt W ls)
         (subst (λ (x : ℕ). at + x ≤ len) (sym (length-map ls (code w))) (ltb-false _ _ (p .1 .1 .0)))
     deed-good (cut n) p =
         let r : n ≤ len = ltb-false _ _ (p .1 .1 .0) in
-        good-from W bs h H n [] (λ i. pow-pos w) r (le-trans (add-le-add (up-mono W (n + 0) len (omega arith)) (le-refl 48)) (H .room))
-
-    by-outcome : (o : Outcome) (e : Edit) → (Done ≡ o → Good w bs h e) → Good w bs h (ifDone o e still)
-    by-outcome Done e g = g refl
-    by-outcome (Refused r) e g = good-still W bs h H
+        good-from W bs h H n [] (λ i. pow-pos w) r (le-trans (add-le-add (up-mono W (n + 0) len (omega arith)) (le-refl trailing)) (H .room))
 
     pub step-good : (c : Call) → Good w bs h (edit w m len c)
     unfolding outcome
-    step-good c = by-outcome (outcome w m len c) (deed w len c) (λ e. deed-good c (done-passed (tests w m len c) e))
+    step-good c =
+        by-outcome (λ o. Good w bs h (ifDone o (deed w len c) still)) (outcome w m len c) (λ e. deed-good c (done-passed (tests w m len c) e)) (λ r e. good-still W bs h H)
 
     -- no clear of such a store is refused
     old-length : (c : Call) (r : Refusal) → Refused r ≡ outcome w m len c → oldLength len c ≡ len
@@ -77,14 +73,10 @@ module _ {w : ℕ} (W : IsWidth w) where
     old-length (overwrite at ls) r e = refl
     old-length (cut n) r e = refl
 
-    length-by : (c : Call) (o : Outcome) → ((r : Refusal) → Refused r ≡ o → oldLength len c ≡ len)
-        → ifDone o (span w len c) (0, 0, oldLength len c) .2 ≡ lengthAfter len (ifDone o (deed w len c) still)
-    length-by c Done g = span-length len c
-    length-by c (Refused r) g = g r refl
-
     pub step-length : (c : Call) → answered w m len c .values .2 ≡ lengthAfter len (edit w m len c)
     unfolding answered
-    step-length c = length-by c (outcome w m len c) (old-length c)
+    step-length c =
+        by-outcome (λ o. ifDone o (span w len c) (0, 0, oldLength len c) .2 ≡ lengthAfter len (ifDone o (deed w len c) still)) (outcome w m len c) (λ e. span-length len c) (old-length c)
 
   -- a store and the characters that it holds
   pub record Kept (s : Store) (h : List ℕ) (m : ℕ) : Type 0 where
@@ -96,10 +88,12 @@ module _ {w : ℕ} (W : IsWidth w) where
       → Kept (step w s c) (charsAfter h (edit w (length (s .bytes)) n c)) (length (s .bytes))
   unfolding after
   step-kept s h c n p q H =
-      subst (λ (x : ℕ). Kept (record { bytes = bufferAfter w (s .bytes) (edit w (length (s .bytes)) x c); len = answered w (length (s .bytes)) x c .values .2 }) (charsAfter h (edit w (length (s .bytes)) n c)) (length (s .bytes))) (sym q)
-      (subst (λ (x : ℕ). Kept (record { bytes = bufferAfter w (s .bytes) (edit w (length (s .bytes)) x c); len = answered w (length (s .bytes)) x c .values .2 }) (charsAfter h (edit w (length (s .bytes)) x c)) (length (s .bytes))) (sym p)
-      (let g : Good w (s .bytes) h (edit w (length (s .bytes)) (length h) c) = step-good (s .bytes) h H c in
-      record { holds = g .holds; lengths = step-length (s .bytes) h H c ∙ g .lengths; size = g .size }))
+      let m : ℕ = length (s .bytes) in
+      let left : ℕ → Store = λ x. record { bytes = bufferAfter w (s .bytes) (edit w m x c); len = answered w m x c .values .2 } in
+      let g : Good w (s .bytes) h (edit w m (length h) c) = step-good (s .bytes) h H c in
+      subst (λ (x : ℕ). Kept (left x) (charsAfter h (edit w m n c)) m) (sym q)
+      (subst (λ (x : ℕ). Kept (left x) (charsAfter h (edit w m x c)) m) (sym p)
+      (record { holds = g .holds; lengths = step-length (s .bytes) h H c ∙ g .lengths; size = g .size }))
 
   pub run-kept : (cs : List Call) (s : Store) (h : List ℕ) (m : ℕ) → Kept s h m → Kept (run w s cs) (history w m h cs) m
   run-kept [] s h m K = K
@@ -112,7 +106,7 @@ module _ {w : ℕ} (W : IsWidth w) where
   unfolding outcome after answered written
   clear-kept bs old e =
       let p : Passed (tests w (length bs) 0 clear) = done-passed (tests w (length bs) 0 clear) (sym e) in
-      let lo : 48 ≤ length bs = ltb-false _ _ (p .1 .0) in
+      let lo : trailing ≤ length bs = ltb-false _ _ (p .1 .0) in
       let d : List ℕ = written w bs 0 [] in
       let start : step w (record { bytes = bs; len = old }) clear ≡ record { bytes = d; len = 0 } = rw e in
       subst (λ (s : Store). Kept s [] (length bs)) (sym start)

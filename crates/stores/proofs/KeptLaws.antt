@@ -1,7 +1,7 @@
 -- The laws of characters that a call leaves: those below the old and the new length that it does not overwrite.
 -- Assumes nothing.
 use mathlib.Core.List.{List, [], _∷_, map}
-use mathlib.Core.Path.{_≡_, refl, sym, _∙_, subst}
+use mathlib.Core.Path.{_≡_, refl, sym, _∙_}
 use Prim.Native.Nat.{ℕ, _+_, _*_, _/_, _^_, _≤_, _<_}
 use native.Mathlib.Nat.{zero-div, zero-mod, le-div-iff-mul-le}
 use native.Mathlib.Omega.{arith}
@@ -10,13 +10,13 @@ use lib.Pow.{pow-pos}
 use Rattle.codes.specs.Codes.{IsWidth, per, charAt, code}
 use Rattle.codes.specs.Refusals.{ifDone}
 use Rattle.codes.specs.Words.{pack}
-use Rattle.codes.specs.declared.refusals.Outcome.{Outcome}
-use Rattle.codes.specs.declared.refusals.Outcome.the-variants.{Done, Refused}
+use Rattle.codes.specs.declared.refusals.Outcome.the-variants.{Done}
 use Rattle.codes.proofs.CharLaws.{charAt-lt, charAt-pack, length-pack}
 use Rattle.codes.proofs.WidthLaws.{below-or, per-pos}
 use Rattle.stores.specs.Changes.{Overwrites}
 use Rattle.runs.specs.Runs.{seqChars, splice, written, overwritten}
-use Rattle.stores.specs.Stores.{Call, clear, pushAscii, pushSeq, overwrite, cut, outcome, still, deed, span, oldLength, bufferAfter, answered, after}
+use Rattle.stores.specs.Stores.{Call, clear, pushAscii, pushSeq, overwrite, cut, outcome, still, deed, span, bufferAfter, answered, after}
+use Rattle.stores.proofs.CallLaws.{by-outcome}
 use Rattle.runs.proofs.SeqLaws.{seq-lt}
 use Rattle.runs.proofs.SpliceLaws.{splice-old, splice-far, splice-lt, codes-lt}
 
@@ -54,16 +54,14 @@ module _ {w : ℕ} (W : IsWidth w) where
       deed-char (overwrite at ls) i l m h = over-char at ls i (λ a b. h (a, b))
       deed-char (cut n) i l m h = from-char n [] i (λ j. pow-pos w) m
 
-      pub char-by : (c : Call) (i : ℕ) (o : Outcome) → (Done ≡ o → charAt w (bufferAfter w bs (deed w len c)) i ≡ charAt w bs i)
-          → charAt w (bufferAfter w bs (ifDone o (deed w len c) still)) i ≡ charAt w bs i
-      char-by c i Done h = h refl
-      char-by c i (Refused r) h = refl
+      -- a character that a call leaves where it is done
+      pub char-by : (c : Call) (i : ℕ) → (Done ≡ outcome w (length bs) len c → charAt w (bufferAfter w bs (deed w len c)) i ≡ charAt w bs i)
+          → charAt w (after w bs len c) i ≡ charAt w bs i
+      unfolding after
+      char-by c i h = by-outcome (λ o. charAt w (bufferAfter w bs (ifDone o (deed w len c) still)) i ≡ charAt w bs i) (outcome w (length bs) len c) h (λ r e. refl)
 
-      length-by : (c : Call) (o : Outcome) → Done ≡ o → ifDone o (span w len c) (0, 0, oldLength len c) ≡ span w len c
-      length-by c o e = rw (sym e)
-
-      pub char-kept : (c : Call) (i : ℕ) → i < len → i < answered w (length bs) len c .values .2 → (Overwrites c i → ⊥) → charAt w (after w bs len c) i ≡ charAt w bs i
-      unfolding after answered
-      char-kept c i l m h =
-          let o : Outcome = outcome w (length bs) len c in
-          char-by c i o (λ e. deed-char c i l (subst (λ (v : ℕ × ℕ × ℕ). i < v .2) (length-by c o e) m) h)
+      -- a character below the old and the new length that no call which is done overwrites
+      pub char-kept : (c : Call) (i : ℕ) → i < len → i < answered w (length bs) len c .values .2 → (Done ≡ outcome w (length bs) len c → Overwrites c i → ⊥)
+          → charAt w (after w bs len c) i ≡ charAt w bs i
+      unfolding answered
+      char-kept c i l m h = char-by c i (λ e. deed-char c i l (rw (sym e) at m) (h e))

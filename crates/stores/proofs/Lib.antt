@@ -7,3 +7,5 @@ pub mod Written
 pub mod WindowsKept
 pub mod AnswerLaws
 pub mod Decided
+pub mod Called
+pub mod Viewed

@@ -1,5 +1,5 @@
--- Windows of flags, for k from 1 to 96. A window of k flags that lies in the track before and after a call, and holds no
--- overwritten position, keeps its answer. After a clear that is accepted and any calls, every window's answer is that of the
+-- Windows of flags, for k from 1 to 96. A window of k flags that lies in the track before and after a call, and holds no position
+-- that a call which is done overwrites, keeps its answer. After a clear that is accepted and any calls, every window's answer is that of the
 -- flags which the calls alone give.
 -- Assumes nothing.
 use mathlib.Core.List.{List, []}
@@ -9,20 +9,16 @@ use native.Mathlib.Nat.{zero-add}
 use native.Mathlib.Omega.{arith}
 use lib.ListN.{length, getD, take, drop, length-drop}
 use lib.Seq.{ext-getD, getD-take, getD-drop, length-take-le}
-use Rattle.codes.specs.Codes.{charAt, chars}
+use Rattle.codes.specs.Codes.{charAt}
 use Rattle.codes.specs.declared.refusals.Outcome.the-variants.{Done}
 use Rattle.codes.proofs.CharLaws.{length-chars, getD-chars}
 use Rattle.codes.proofs.WidthLaws.{width-1}
 use Rattle.stores.specs.Changes.{Overwrites}
-use Rattle.stores.specs.History.{Store, step, run, history}
+use Rattle.stores.specs.History.{Store, step, run, history, flagsOf}
 use Rattle.stores.specs.Stores.{Call, clear, outcome}
 use Rattle.codes.specs.Windows.{anySet, window}
 use Rattle.stores.proofs.KeptLaws.{char-kept}
 use Rattle.stores.proofs.History as Histories
-
--- the flags of a store
-abbrev pub flagsOf : Store → List ℕ
-flagsOf s = chars 1 (s .bytes) 0 (s .len)
 
 -- windows of lists that agree there
 window-same : (f g : List ℕ) (p k : ℕ) → p + k ≤ length f → p + k ≤ length g → ((i : ℕ) → p ≤ i → i < p + k → getD f i 0 ≡ getD g i 0) → window f p k ≡ window g p k
@@ -35,7 +31,8 @@ window-same f g p k a b h =
     let j : i < k = omega arith in
     getD-take k (drop p f) i 0 j ∙ getD-drop p f i 0 ∙ h (p + i) (omega arith) (omega arith) ∙ sym (getD-take k (drop p g) i 0 j ∙ getD-drop p g i 0)))
 
-pub windows-kept : (s : Store) (c : Call) (p k : ℕ) → 1 ≤ k → k ≤ 96 → p + k ≤ s .len → p + k ≤ step 1 s c .len → ((i : ℕ) → p ≤ i → i < p + k → Overwrites c i → ⊥)
+pub windows-kept : (s : Store) (c : Call) (p k : ℕ) → 1 ≤ k → k ≤ 96 → p + k ≤ s .len → p + k ≤ step 1 s c .len
+    → ((i : ℕ) → p ≤ i → i < p + k → Done ≡ outcome 1 (length (s .bytes)) (s .len) c → Overwrites c i → ⊥)
     → window (flagsOf (step 1 s c)) p k ≡ window (flagsOf s) p k
 windows-kept s c p k lo hi a b h =
     let t : Store = step 1 s c in

@@ -8,18 +8,18 @@ use Prim.Native.Nat.{ℕ, _+_, _*_, _/_, _≤_, _<_, zero-le}
 use native.Mathlib.Nat.{add-zero, le-of-eq, mul-le-mul-right}
 use native.Mathlib.Omega.{arith}
 use lib.ListN.{length, getD, length-map, List·getD-eq-default}
-use Rattle.codes.specs.Codes.{IsWidth, per, up, charAt, code}
+use Rattle.codes.specs.Codes.{IsWidth, per, up, trailing, charAt, code}
 use Rattle.codes.specs.Refusals.{ifDone}
 use Rattle.codes.specs.Words.{pack}
-use Rattle.codes.specs.declared.refusals.Outcome.{Outcome}
-use Rattle.codes.specs.declared.refusals.Outcome.the-variants.{Done, Refused}
+use Rattle.codes.specs.declared.refusals.Outcome.the-variants.{Done}
 use Rattle.codes.proofs.CharLaws.{getD-pack, length-pack, pack-ext, pack-charAt}
 use Rattle.codes.proofs.WidthLaws.{below-or, up-hi, up-le}
 use Rattle.stores.specs.Changes.{runStart, runEnd}
-use Rattle.stores.specs.Stores.{Call, clear, pushAscii, pushSeq, overwrite, cut, outcome, Edit, still, deed, bufferAfter, after}
+use Rattle.stores.specs.Stores.{Call, clear, pushAscii, pushSeq, overwrite, cut, outcome, still, deed, bufferAfter, after}
 use Rattle.runs.specs.Runs.{seqStart, splice, overwritten}
 use Rattle.runs.specs.Runs as Runs
 use Rattle.runs.proofs.FreshLaws.{kept-below, kept-above}
+use Rattle.stores.proofs.CallLaws.{by-outcome}
 use Rattle.stores.proofs.KeptLaws.{over-char, char-by}
 use Rattle.runs.proofs.SeqLaws.{seq-end}
 use Rattle.runs.proofs.SpliceLaws.{splice-old, splice-far}
@@ -38,9 +38,9 @@ module _ {w : ℕ} (W : IsWidth w) (bs : List ℕ) (bytes : (b : ℕ) → getD b
       List·getD-eq-default (pack w (length bs) (splice (charAt w bs) at cs stop)) 0 {n = j} (omega (arith, length-pack w (length bs) (splice (charAt w bs) at cs stop)))
       ∙ sym (List·getD-eq-default bs 0 {n = j} l))
 
-  from-out : (at : ℕ) (cs : List ℕ) (e j : ℕ) → at + length cs ≡ e → (at / per w ≤ j → j < up w e + 48 → ⊥) → getD (Runs.written w bs at cs) j 0 ≡ getD bs j 0
+  from-out : (at : ℕ) (cs : List ℕ) (e j : ℕ) → at + length cs ≡ e → (at / per w ≤ j → j < up w e + trailing → ⊥) → getD (Runs.written w bs at cs) j 0 ≡ getD bs j 0
   unfolding Runs.written
-  from-out at cs e j q h = spliced-out at cs ((up w (at + length cs) + 48) * per w) (up w e + 48) j (le-of-eq (ap (λ (x : ℕ). (up w x + 48) * per w) q)) h
+  from-out at cs e j q h = spliced-out at cs ((up w (at + length cs) + trailing) * per w) (up w e + trailing) j (le-of-eq (ap (λ (x : ℕ). (up w x + trailing) * per w) q)) h
 
   over-out : (at : ℕ) (cs : List ℕ) (e j : ℕ) → at + length cs ≡ e → (at / per w ≤ j → j < up w e → ⊥) → getD (overwritten w bs at cs) j 0 ≡ getD bs j 0
   unfolding overwritten
@@ -62,16 +62,12 @@ module _ {w : ℕ} (W : IsWidth w) (bs : List ℕ) (bytes : (b : ℕ) → getD b
   deed-out (overwrite at (l ∷ ls)) j h = over-out at (map (code w) (l ∷ ls)) (at + length (l ∷ ls)) j (ap (λ (n : ℕ). at + n) (length-map (l ∷ ls) (code w))) h
   deed-out (cut n) j h = from-out n [] n j (add-zero n) h
 
-  by-outcome : (o : Outcome) (e : Edit) (j : ℕ) → (Done ≡ o → getD (bufferAfter w bs e) j 0 ≡ getD bs j 0) → getD (bufferAfter w bs (ifDone o e still)) j 0 ≡ getD bs j 0
-  by-outcome Done e j h = h refl
-  by-outcome (Refused r) e j h = refl
-
   -- a byte that is not in the run of a call that is done
   pub written : (c : Call) (j : ℕ) → (Done ≡ outcome w (length bs) len c → runStart w len c ≤ j → j < runEnd w len c → ⊥) → getD (after w bs len c) j 0 ≡ getD bs j 0
   unfolding after
-  written c j h = by-outcome (outcome w (length bs) len c) (deed w len c) j (λ e. deed-out c j (h e))
+  written c j h =
+      by-outcome (λ o. getD (bufferAfter w bs (ifDone o (deed w len c) still)) j 0 ≡ getD bs j 0) (outcome w (length bs) len c) (λ e. deed-out c j (h e)) (λ r e. refl)
 
   -- every other character than those that are overwritten
   pub overwritten-kept : (at : ℕ) (ls : List ℕ) (i : ℕ) → (at ≤ i → i < at + length ls → ⊥) → charAt w (after w bs len (overwrite at ls)) i ≡ charAt w bs i
-  unfolding after
-  overwritten-kept at ls i h = char-by W bs len (overwrite at ls) i (outcome w (length bs) len (overwrite at ls)) (λ e. over-char W bs at ls i h)
+  overwritten-kept at ls i h = char-by W bs len (overwrite at ls) i (λ e. over-char W bs at ls i h)

@@ -3,7 +3,7 @@
 use mathlib.Core.List.{[], _∷_}
 use Prim.Native.Nat.{ℕ, _+_, _/_, _≤_, _<_}
 use lib.ListN.{length}
-use Rattle.codes.specs.Codes.{per, up}
+use Rattle.codes.specs.Codes.{per, up, trailing}
 use Rattle.stores.specs.Stores.{Call, clear, pushAscii, pushSeq, overwrite, cut}
 use Rattle.runs.specs.Runs.{seqStart}
 
@@ -17,13 +17,13 @@ runStart w len (cut n) = n / per w
 
 -- the byte before which the run stops; where there are no letters there is none
 abbrev pub runEnd : ℕ → ℕ → Call → ℕ
-runEnd w len clear = 48
+runEnd w len clear = trailing
 runEnd w len (pushAscii []) = 0
-runEnd w len (pushAscii (l ∷ ls)) = up w (len + length (l ∷ ls)) + 48
-runEnd w len (pushSeq bs o n) = up w (seqStart w len o + n) + 48
+runEnd w len (pushAscii (l ∷ ls)) = up w (len + length (l ∷ ls)) + trailing
+runEnd w len (pushSeq bs o n) = up w (seqStart w len o + n) + trailing
 runEnd w len (overwrite start []) = 0
 runEnd w len (overwrite start (l ∷ ls)) = up w (start + length (l ∷ ls))
-runEnd w len (cut n) = up w n + 48
+runEnd w len (cut n) = up w n + trailing
 
 -- character i is one that the call overwrites
 abbrev pub Overwrites : Call → ℕ → Type 0

@@ -3,7 +3,7 @@
 use mathlib.Core.List.{List, [], _∷_, map}
 use Prim.Native.Nat.{ℕ, _+_}
 use lib.ListN.{length}
-use Rattle.codes.specs.Codes.{up, code}
+use Rattle.codes.specs.Codes.{up, trailing, code}
 use Rattle.codes.specs.Refusals.{Test, Answer, answer, first, ifDone, tooLong, badStore, badView, badEnd, noRoom}
 use Rattle.codes.specs.declared.refusals.Outcome.{Outcome}
 use Rattle.runs.specs.Runs.{seqStart, seqChars, written, overwritten}
@@ -18,11 +18,11 @@ pub data Call : Type 0 where
 
 -- a store of m bytes has no room for n characters
 abbrev pub noStore : ℕ → ℕ → ℕ → Test
-noStore w m n = noRoom m (up w n + 48)
+noStore w m n = noRoom m (up w n + trailing)
 
 -- the refusals of a call on a store of m bytes and a length
 abbrev pub tests : ℕ → ℕ → ℕ → Call → List Test
-tests w m len clear = tooLong m ∷ noRoom m 48 ∷ []
+tests w m len clear = tooLong m ∷ noRoom m trailing ∷ []
 tests w m len (pushAscii letters) = tooLong m ∷ badStore w m len ∷ noStore w m (len + length letters) ∷ []
 tests w m len (pushSeq bs o n) =
     tooLong m ∷ tooLong (length bs) ∷ badStore w m len ∷ badView w (length bs) o n ∷ noStore w m (seqStart w len o + n) ∷ []

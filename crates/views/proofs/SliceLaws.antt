@@ -9,7 +9,7 @@ use lib.Dec.{ltb, leb}
 use lib.ListN.{length, getD, take, drop, length-drop}
 use lib.Seq.{length-take-le, take-at, drop-at, getD-take, getD-drop}
 use borrow.Author.Tests.{le-ltb, le-leb}
-use Rattle.codes.specs.Codes.{IsWidth, per, up, chars}
+use Rattle.codes.specs.Codes.{IsWidth, per, up, trailing, chars}
 use Rattle.codes.specs.Refusals.{Test, Answer, ifDone, answer, first, badIndex, badEnd, badStart, badView}
 use Rattle.codes.specs.declared.refusals.Outcome.{Outcome}
 use Rattle.codes.specs.declared.refusals.Outcome.the-variants.{Done, Refused}
@@ -30,7 +30,7 @@ pub record Holds (w : ℕ) (cs : List ℕ) (p : Lent) : Type 0 where
 room-done : (w n o len : ℕ) → Room w n o len → first (viewTests w n o len) ≡ Done
 room-done w n o len r =
     first-next (ltb (2 ^ 28) n) TooLong (badView w n o len ∷ []) (le-ltb (2 ^ 28) n (r .small))
-    ∙ first-next (ltb (n * per w) (o + len + 48 * per w)) BadView [] (le-ltb (n * per w) (o + len + 48 * per w) (r .fits))
+    ∙ first-next (ltb (n * per w) (o + len + trailing * per w)) BadView [] (le-ltb (n * per w) (o + len + trailing * per w) (r .fits))
 
 -- the characters from start up to end
 pub chars-between : (w : ℕ) (bs : List ℕ) (o len start end : ℕ) → start ≤ end → end ≤ len → chars w bs (o + start) (end - start) ≡ take (end - start) (drop start (chars w bs o len))
@@ -62,7 +62,7 @@ module _ {w : ℕ} (s : Span) (o len : ℕ) (e : first (viewTests w (length (s .
   normal-holds W =
       let r = view-accepted w (length (s .bytes)) o len e in
       let from : ℕ = o / per w in
-      let to : ℕ = up w (o + len) + 48 in
+      let to : ℕ = up w (o + len) + trailing in
       let long : length (normalPart w s o len .bytes) ≡ to - from = length-take-le (to - from) (drop from (s .bytes)) (rw length-drop (omega (arith, room-end W r))) in
       let a = add-mul from (to - from) (per w) in
       let b : from + (to - from) ≡ to = add-sub-of-le (room-start W r) in
@@ -70,7 +70,7 @@ module _ {w : ℕ} (s : Span) (o len : ℕ) (e : first (viewTests w (length (s .
       record {
         accepted = room-done w (length (normalPart w s o len .bytes)) (o % per w) len (record {
           small = omega (arith, r .small, room-end W r);
-          fits = rw long (omega (arith, add-mul (up w (o + len)) 48 (per w), up-hi W (o + len), div-add-mod' o (per w)));
+          fits = rw long (omega (arith, add-mul (up w (o + len)) trailing (per w), up-hi W (o + len), div-add-mod' o (per w)));
         });
         characters = normal-chars W s o len r;
       }

@@ -4,4 +4,5 @@ pub mod WindowFillLaws
 pub mod TotalLaws
 pub mod Stepping
 pub mod Viewed
+pub mod Answered
 pub mod Decided

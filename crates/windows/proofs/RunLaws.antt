@@ -17,15 +17,16 @@ use Rattle.codes.specs.declared.refusals.Outcome.the-variants.{Done, Refused}
 use Rattle.codes.specs.declared.refusals.Outcome.{Outcome}
 use Rattle.codes.specs.declared.refusals.Refusal.{Refusal}
 use Rattle.codes.specs.declared.refusals.Refusal.the-variants.{BadStream}
+use Rattle.codes.proofs.CodeLaws.{pick-lt}
 use Rattle.codes.proofs.TabLaws.{getD-tab, tab-ext, Below-tab, Below-getD}
 use Rattle.codes.proofs.WordLaws.{Below}
 use Rattle.fields.specs.Fields.{viewTests}
-use Rattle.codes.proofs.OutcomeLaws.{first-both, first-refused}
+use Rattle.codes.proofs.OutcomeLaws.{or-true, first-both, first-refused}
 use Rattle.lanes.specs.Lanes.{lane, steps, badShape, laneChar, lanes}
 use Rattle.streams.specs.Streams.{badStep}
-use Rattle.windows.specs.Windows.{badWindow, badState, Running, summed, leaving, anyLane, stepAnswers, stepState, windowTests, runOutcome, runAnswers, runState}
-use Rattle.windows.proofs.WindowLaws.{or-true}
-use Rattle.lanes.proofs.ShapeLaws.{neither, not-first, first-of-two, second-of-two, none-of-two}
+use Rattle.windows.specs.Windows.{badWindow, badState, Running, atZero, summed, leaving, anyLane, stepAnswers, stepState, windowTests, runOutcome, runAnswers, runState}
+use Rattle.codes.proofs.RefusalLaws.{neither}
+use Rattle.lanes.proofs.ShapeLaws.{not-first, first-of-two, second-of-two, none-of-two}
 
 pub any-step : (l : ℕ) (f : ℕ → Bool) → anyLane (l + 1) f ≡ (anyLane l f || f l)
 any-step l f = ap (λ (n : ℕ). anyLane n f) (add-one l)
@@ -68,10 +69,6 @@ window-open bs o len c k h =
 
 -- ---- a step's lanes
 
-pick-lt : (t : Bool) (x m : ℕ) → 0 < m → x < m → pick t 0 x < m
-pick-lt true x m h l = h
-pick-lt false x m h l = l
-
 pub lanes-at : (cs : List ℕ) (n d j l : ℕ) → l < 8 → getD (lanes cs n d j) l 0 ≡ laneChar cs n d j l
 unfolding lanes
 lanes-at cs n d j l h = getD-tab 8 (laneChar cs n d j) l h
@@ -79,7 +76,7 @@ lanes-at cs n d j l h = getD-tab 8 (laneChar cs n d j) l h
 pub lanes-small : (w : ℕ) (cs : List ℕ) → Below w cs → (n d j l : ℕ) → getD (lanes cs n d j) l 0 < 2 ^ w
 unfolding lanes
 lanes-small w cs h n d j l =
-    Below-getD w (tab 8 (laneChar cs n d j)) (Below-tab w 8 (laneChar cs n d j) (λ m. pick-lt (ltb j d) (getD cs (m * n + (j - d)) 0) (2 ^ w) (pow-pos w) (Below-getD w cs h (m * n + (j - d))))) l
+    Below-getD w (tab 8 (laneChar cs n d j)) (Below-tab w 8 (laneChar cs n d j) (λ m. pick-lt (ltb j d) 0 _ (2 ^ w) (pow-pos w) (Below-getD w cs h (m * n + (j - d))))) l
 
 -- a count above `most`, or a sum below what leaves
 abbrev pub badLane : ℕ → List ℕ → List ℕ → List ℕ → ℕ → Bool
@@ -119,35 +116,42 @@ module _ (cs : List ℕ) (n k : ℕ) (s : Running) (enter leave : List ℕ) (en 
 
 -- what a step answers and hands back, by its outcome
 module _ (bs : List ℕ) (o len c k : ℕ) (s : Running) where
-  pub run-refused : (r : Refusal) → runOutcome bs o len c k s ≡ Refused r → (runAnswers bs o len c k s ≡ replicate 8 0) × (runState bs o len c k s ≡ record { counts = replicate 8 0; at = 0 })
+  abbrev n : ℕ
+  n = lane 1 len c 1
+
+  abbrev cs : List ℕ
+  cs = chars 1 bs o len
+
+  -- refused, all is zero
+  pub run-refused : {r : Refusal} {u : Outcome} {answers counts : List ℕ} {at : ℕ} → runOutcome bs o len c k s ≡ Refused r
+      → (u ≡ Refused r) × (answers ≡ replicate 8 0) × (counts ≡ replicate 8 0) × (at ≡ 0)
+      → (u ≡ runOutcome bs o len c k s) × ((answers ≡ runAnswers bs o len c k s) × (record { counts = counts; at = at } ≡ runState bs o len c k s))
   unfolding runAnswers runState
-  run-refused r e = (
-    ap (λ (u : Outcome). ifDone u (stepAnswers (chars 1 bs o len) (lane 1 len c 1) s) (replicate 8 0)) e,
-    ap (λ (u : Outcome). ifDone u (stepState (chars 1 bs o len) (lane 1 len c 1) k s) (record { counts = replicate 8 0; at = 0 })) e,
+  run-refused e x = (
+    x .0 ∙ sym e,
+    (
+      x .1 ∙ sym (ap (λ (u : Outcome). ifDone u (stepAnswers cs n s) (replicate 8 0)) e),
+      ap₂ (λ (y : List ℕ) (j : ℕ). record { counts = y; at = j }) (x .2) (x .3) ∙ sym (ap (λ (u : Outcome). ifDone u (stepState cs n k s) atZero) e),
+    ),
   )
 
-  pub run-done : runOutcome bs o len c k s ≡ Done → (runAnswers bs o len c k s ≡ stepAnswers (chars 1 bs o len) (lane 1 len c 1) s) × (runState bs o len c k s ≡ stepState (chars 1 bs o len) (lane 1 len c 1) k s)
+  pub run-done : runOutcome bs o len c k s ≡ Done → (runAnswers bs o len c k s ≡ stepAnswers cs n s) × (runState bs o len c k s ≡ stepState cs n k s)
   unfolding runAnswers runState
-  run-done e = (
-    ap (λ (u : Outcome). ifDone u (stepAnswers (chars 1 bs o len) (lane 1 len c 1) s) (replicate 8 0)) e,
-    ap (λ (u : Outcome). ifDone u (stepState (chars 1 bs o len) (lane 1 len c 1) k s) (record { counts = replicate 8 0; at = 0 })) e,
-  )
+  run-done e = (ap (λ (u : Outcome). ifDone u (stepAnswers cs n s) (replicate 8 0)) e, ap (λ (u : Outcome). ifDone u (stepState cs n k s) atZero) e)
 
   module _ (opened : first (windowTests bs o len c k) ≡ Done) where
     pub run-past : steps 1 len c 1 ≤ s .at → runOutcome bs o len c k s ≡ Refused BadStream
     unfolding runOutcome
-    run-past h = sym (first-of-two (windowTests bs o len c k) opened (badStep (steps 1 len c 1) (s .at)) (badState (chars 1 bs o len) (lane 1 len c 1) k s) (le-leb (steps 1 len c 1) (s .at) h))
+    run-past h = sym (first-of-two (windowTests bs o len c k) opened (badStep (steps 1 len c 1) (s .at)) (badState cs n k s) (le-leb (steps 1 len c 1) (s .at) h))
 
-    pub run-bad : s .at < steps 1 len c 1 → badState (chars 1 bs o len) (lane 1 len c 1) k s .0 ≡ true → runOutcome bs o len c k s ≡ Refused BadStream
+    pub run-bad : s .at < steps 1 len c 1 → badState cs n k s .0 ≡ true → runOutcome bs o len c k s ≡ Refused BadStream
     unfolding runOutcome
-    run-bad h e =
-        sym (second-of-two (windowTests bs o len c k) opened (badStep (steps 1 len c 1) (s .at)) (badState (chars 1 bs o len) (lane 1 len c 1) k s) (lt-leb (steps 1 len c 1) (s .at) h) e)
+    run-bad h e = sym (second-of-two (windowTests bs o len c k) opened (badStep (steps 1 len c 1) (s .at)) (badState cs n k s) (lt-leb (steps 1 len c 1) (s .at) h) e)
 
-    pub run-right : s .at < steps 1 len c 1 → badState (chars 1 bs o len) (lane 1 len c 1) k s .0 ≡ false → runOutcome bs o len c k s ≡ Done
+    pub run-right : s .at < steps 1 len c 1 → badState cs n k s .0 ≡ false → runOutcome bs o len c k s ≡ Done
     unfolding runOutcome
-    run-right h e =
-        sym (none-of-two (windowTests bs o len c k) opened (badStep (steps 1 len c 1) (s .at)) (badState (chars 1 bs o len) (lane 1 len c 1) k s) (lt-leb (steps 1 len c 1) (s .at) h) e)
+    run-right h e = sym (none-of-two (windowTests bs o len c k) opened (badStep (steps 1 len c 1) (s .at)) (badState cs n k s) (lt-leb (steps 1 len c 1) (s .at) h) e)
 
   pub run-shut : (r : Refusal) → first (windowTests bs o len c k) ≡ Refused r → runOutcome bs o len c k s ≡ Refused r
   unfolding runOutcome
-  run-shut r e = sym (sym (first-refused (windowTests bs o len c k) (badStep (steps 1 len c 1) (s .at) ∷ badState (chars 1 bs o len) (lane 1 len c 1) k s ∷ []) r e))
+  run-shut r e = first-refused (windowTests bs o len c k) (badStep (steps 1 len c 1) (s .at) ∷ badState cs n k s ∷ []) r e

@@ -8,14 +8,15 @@ use native.Mathlib.Nat.{add-assoc, add-suc, add-zero, zero-add, suc-add, sub-zer
 use native.Mathlib.Numerals.{add-one}
 use native.Mathlib.Omega.{arith}
 use lib.Dec.{ltb, eqb}
-use lib.ListN.{getD, replicate}
+use lib.ListN.{getD}
 use borrow.Author.Tests.{lt-ltb, le-ltb, eq-eqb}
 use Rattle.codes.specs.Codes.{pick, tab}
 use Rattle.codes.specs.Windows.{window}
+use Rattle.codes.proofs.OutcomeLaws.{or-true}
 use Rattle.codes.proofs.TabLaws.{getD-tab, tab-ext}
 use Rattle.codes.proofs.WidthLaws.{below-or}
-use Rattle.windows.specs.Windows.{laneWindow, Running, summed, leaving, anyLane, badState, stepAnswers, stepState}
-use Rattle.windows.proofs.WindowLaws.{window-none, window-snoc, window-length, or-false, or-true}
+use Rattle.windows.specs.Windows.{laneWindow, Running, atZero, summed, leaving, anyLane, badState, stepAnswers, stepState}
+use Rattle.windows.proofs.WindowLaws.{window-none, window-snoc, window-length, or-false}
 
 -- the sum of m elements from place p on
 unfoldable pub total : List ℕ → ℕ → ℕ → ℕ
@@ -76,7 +77,9 @@ module _ (cs : List ℕ) (flags : (i : ℕ) → getD cs i 0 < 2) where
       sum-at =
           let d : suc j - (suc j - k) ≡ suc (j - (suc j - k)) = omega arith in
           let e : suc j - k + (j - (suc j - k)) ≡ j = omega arith in
-          ap₂ (λ (x y : ℕ). x + y) count-at (ap (λ (b : Bool). pick b 0 (getD cs (l * n + (j - 0)) 0)) (le-ltb j 0 (omega arith)) ∙ ap (λ (i : ℕ). getD cs (l * n + i) 0) (sub-zero j ∙ sym e) ∙ ap (λ (i : ℕ). getD cs i 0) (sym (add-assoc (l * n) (suc j - k) (j - (suc j - k)))))
+          let enters = ap (λ (b : Bool). pick b 0 (getD cs (l * n + (j - 0)) 0)) (le-ltb j 0 (omega arith)) in
+          let place : l * n + (j - 0) ≡ l * n + (suc j - k) + (j - (suc j - k)) = ap (λ (i : ℕ). l * n + i) (sub-zero j ∙ sym e) ∙ sym (add-assoc (l * n) (suc j - k) (j - (suc j - k))) in
+          ap₂ (λ (x y : ℕ). x + y) count-at (enters ∙ ap (λ (i : ℕ). getD cs i 0) place)
           ∙ sym (ap (total cs (l * n + (suc j - k))) d)
 
       -- what leaves, and the next count
@@ -124,7 +127,7 @@ module _ (cs : List ℕ) (flags : (i : ℕ) → getD cs i 0 < 2) where
         ap (λ (b : Bool). pick b 0xffff_ffff 0)
         (ap (ltb 0) (sum-at j l h) ∙ total-window (l * n + (suc j - k)) (suc j - (suc j - k)) ∙ ap (window cs (l * n + (suc j - k))) (window-length cs n k l j)))
 
-    pub state-first : stateAt 0 ≡ record { counts = replicate 8 0; at = 0 }
+    pub state-first : stateAt 0 ≡ atZero
     unfolding stateAt tab total
     state-first =
         ap (λ (c : List ℕ). record { counts = c; at = 0 })

@@ -12,10 +12,15 @@ use Rattle.codes.proofs.CharLaws.{same-length}
 use Rattle.fields.specs.Fields.{viewTests}
 use Rattle.lanes.specs.Lanes.{lane, padding, steps, badShape}
 use Rattle.streams.specs.Streams.{badStep}
-use Rattle.windows.specs.Windows.{badWindow, badSkip, badState, windowsFilled, Running, stepAnswers, stepState, windowsOutcome, windowsAnswer, windowsAfter, runOutcome, runAnswers, runState}
+use Rattle.windows.specs.Windows.{badWindow, badSkip, badState, windowsFilled, windowsOutcome, windowsAnswer, windowsAfter}
+use Rattle.windows.specs.Windows.{Running, atZero, stepAnswers, stepState, runOutcome, runAnswers, runState}
 use Rattle.streams.proofs.Viewed.{same-tests}
 
-module _ (xs : List ℕ) (p m : ℕ) (bs : List ℕ) (o len : ℕ) (same : chars 1 xs p m ≡ chars 1 bs o len) (mine : first (viewTests 1 (length xs) p m) ≡ Done) (other : first (viewTests 1 (length bs) o len) ≡ Done) (c k : ℕ) where
+module _ (xs : List ℕ) (p m : ℕ) (bs : List ℕ) (o len : ℕ) (same : chars 1 xs p m ≡ chars 1 bs o len) (mine : first (viewTests 1 (length xs) p m) ≡ Done)
+    (other : first (viewTests 1 (length bs) o len) ≡ Done) (c k : ℕ) where
+  alike : m ≡ len
+  alike = same-length 1 xs p m bs o len same
+
   module _ (skip : ℕ) where
     pub viewed-windows-outcome : (r : ℕ) → windowsOutcome xs p m c k skip r ≡ windowsOutcome bs o len c k skip r
     unfolding windowsOutcome
@@ -24,13 +29,13 @@ module _ (xs : List ℕ) (p m : ℕ) (bs : List ℕ) (o len : ℕ) (same : chars
     pub viewed-windows-answer : (r : ℕ) → windowsAnswer xs p m c k skip r ≡ windowsAnswer bs o len c k skip r
     unfolding windowsAnswer
     viewed-windows-answer r =
-        ap₂ (λ (u : Outcome) (i : ℕ). answer u (steps 1 i c 1 - skip, padding 1 i c 1) (0, 0)) (viewed-windows-outcome r) (same-length 1 xs p m bs o len same)
+        ap₂ (λ (u : Outcome) (i : ℕ). answer u (steps 1 i c 1 - skip, padding 1 i c 1) (0, 0)) (viewed-windows-outcome r) alike
 
     pub viewed-windows-after : (out : List ℕ) → windowsAfter xs p m c k skip out ≡ windowsAfter bs o len c k skip out
     unfolding windowsAfter
     viewed-windows-after out =
         ap (λ (u : Outcome). ifDone u (windowsFilled (chars 1 xs p m) (lane 1 m c 1) k skip (steps 1 m c 1 - skip) out) out) (viewed-windows-outcome (length out))
-        ∙ ap₂ (λ (i : ℕ) (cs : List ℕ). ifDone (windowsOutcome bs o len c k skip (length out)) (windowsFilled cs (lane 1 i c 1) k skip (steps 1 i c 1 - skip) out) out) (same-length 1 xs p m bs o len same) same
+        ∙ ap₂ (λ (i : ℕ) (cs : List ℕ). ifDone (windowsOutcome bs o len c k skip (length out)) (windowsFilled cs (lane 1 i c 1) k skip (steps 1 i c 1 - skip) out) out) alike same
 
   module _ (s : Running) where
     pub viewed-run-outcome : runOutcome xs p m c k s ≡ runOutcome bs o len c k s
@@ -41,10 +46,10 @@ module _ (xs : List ℕ) (p m : ℕ) (bs : List ℕ) (o len : ℕ) (same : chars
     unfolding runAnswers
     viewed-run-answers =
         ap (λ (u : Outcome). ifDone u (stepAnswers (chars 1 xs p m) (lane 1 m c 1) s) (replicate 8 0)) viewed-run-outcome
-        ∙ ap₂ (λ (i : ℕ) (cs : List ℕ). ifDone (runOutcome bs o len c k s) (stepAnswers cs (lane 1 i c 1) s) (replicate 8 0)) (same-length 1 xs p m bs o len same) same
+        ∙ ap₂ (λ (i : ℕ) (cs : List ℕ). ifDone (runOutcome bs o len c k s) (stepAnswers cs (lane 1 i c 1) s) (replicate 8 0)) alike same
 
     pub viewed-run-state : runState xs p m c k s ≡ runState bs o len c k s
     unfolding runState
     viewed-run-state =
-        ap (λ (u : Outcome). ifDone u (stepState (chars 1 xs p m) (lane 1 m c 1) k s) (record { counts = replicate 8 0; at = 0 })) viewed-run-outcome
-        ∙ ap₂ (λ (i : ℕ) (cs : List ℕ). ifDone (runOutcome bs o len c k s) (stepState cs (lane 1 i c 1) k s) (record { counts = replicate 8 0; at = 0 })) (same-length 1 xs p m bs o len same) same
+        ap (λ (u : Outcome). ifDone u (stepState (chars 1 xs p m) (lane 1 m c 1) k s) atZero) viewed-run-outcome
+        ∙ ap₂ (λ (i : ℕ) (cs : List ℕ). ifDone (runOutcome bs o len c k s) (stepState cs (lane 1 i c 1) k s) atZero) alike same

@@ -28,9 +28,10 @@ module _ (bs : List ℕ) (o len c k skip : ℕ) where
       → (first (windowTests bs o len c k) ≡ Done) × (skip ≤ steps 1 len c 1) × (8 * (steps 1 len c 1 - skip) ≤ m)
   unfolding windowsOutcome
   windows-open m h =
-      let a = first-both (windowTests bs o len c k) (badSkip (steps 1 len c 1) skip ∷ noRoom m (8 * (steps 1 len c 1 - skip)) ∷ []) h in
-      let b = first-both (badSkip (steps 1 len c 1) skip ∷ []) (noRoom m (8 * (steps 1 len c 1 - skip)) ∷ []) (a .1) in
-      (a .0, ltb-false (steps 1 len c 1) skip (not-first (ltb (steps 1 len c 1) skip) BadStream (b .0)), ltb-false m (8 * (steps 1 len c 1 - skip)) (not-first (ltb m (8 * (steps 1 len c 1 - skip))) NoRoom (b .1)))
+      let n : ℕ = steps 1 len c 1 in
+      let a = first-both (windowTests bs o len c k) (badSkip n skip ∷ noRoom m (8 * (n - skip)) ∷ []) h in
+      let b = first-both (badSkip n skip ∷ []) (noRoom m (8 * (n - skip)) ∷ []) (a .1) in
+      (a .0, ltb-false n skip (not-first (ltb n skip) BadStream (b .0)), ltb-false m (8 * (n - skip)) (not-first (ltb m (8 * (n - skip))) NoRoom (b .1)))
 
   windows-outcome : (m : ℕ) (r : Filled) → filledSays r ≡ windowsAnswer bs o len c k skip m → outcomeOf r ≡ windowsOutcome bs o len c k skip m
   unfolding windowsAnswer

@@ -2,7 +2,7 @@
 -- Assumes nothing.
 use mathlib.Core.Bool.{Bool, true, false, _||_}
 use mathlib.Core.List.{List, [], _∷_, _++_}
-use mathlib.Core.Path.{_≡_, refl, sym, ap, ap₂, _∙_, subst}
+use mathlib.Core.Path.{_≡_, refl, sym, ap, ap₂, _∙_}
 use Prim.Native.Nat.{ℕ, zero, suc, _+_, _-_, _*_, _/_, _%_, _^_, _≤_, _<_, min}
 use native.Mathlib.Nat.{add-assoc, add-zero, one-mul, min-eq-left, min-eq-right, le-of-lt}
 use native.Mathlib.Numerals.{add-one}
@@ -12,21 +12,19 @@ use lib.ListN.{length, getD, take, drop, replicate, List·getD-eq-default}
 use lib.Seq.{take-suc, take-all, getD-drop}
 use borrow.Author.Tests.{lt-ltb, le-ltb}
 use Rattle.codes.specs.Codes.{pick, tab}
+use Rattle.codes.specs.Made.{Made}
 use Rattle.codes.specs.Windows.{anySet, window}
+use Rattle.codes.proofs.MadeLaws.{made-none, made-on, made-as, made-to}
+use Rattle.codes.proofs.OutcomeLaws.{or-true}
 use Rattle.codes.proofs.TabLaws.{getD-tab, tab-ext}
 use Rattle.codes.proofs.WidthLaws.{below-or}
-use Rattle.windows.specs.Windows.{laneWindow}
-use Rattle.windows.specs.Marks.{untilAt, windowEntry, shown, TurnsMarks}
-use Rattle.lanes.specs.Written.{Written, Holds}
-use Rattle.lanes.proofs.WriteLaws.{written-none, written-join, written-ext}
+use Rattle.lanes.specs.Turns.{Holds}
+use Rattle.windows.specs.Windows.{laneWindow, windowEntry}
+use Rattle.windows.specs.Marks.{untilAt, shown, marked, TurnsMarks}
 
 pub or-false : (b : Bool) → (b || false) ≡ b
 or-false true = refl
 or-false false = refl
-
-pub or-true : (b : Bool) → (b || true) ≡ true
-or-true true = refl
-or-true false = refl
 
 or-assoc : (a b c : Bool) → (a || (b || c)) ≡ (a || b || c)
 or-assoc true b c = refl
@@ -66,25 +64,34 @@ module _ (flags : List ℕ) (n k l : ℕ) where
   until-window (suc j) i h =
       below-or j a
       (λ g. let e : suc j - a ≡ 0 = omega arith in let d : j - a ≡ 0 = omega arith in
-      early (eqb (getD flags (l * n + j) 0) 1) (le-ltb i (j + k) (omega arith)) (until-window j i (omega arith) ∙ ap (window flags (l * n + a)) d ∙ window-none flags (l * n + a))
-      ∙ sym (ap (window flags (l * n + a)) e ∙ window-none flags (l * n + a)))
+      early (eqb (getD flags (l * n + j) 0) 1) (le-ltb i (j + k) (omega arith)) (until-window j i (omega arith) ∙ ap (window flags p) d ∙ window-none flags p)
+      ∙ sym (ap (window flags p) e ∙ window-none flags p))
       (λ g. let e : suc j - a ≡ suc (j - a) = omega arith in let d : a + (j - a) ≡ j = omega arith in
       late (eqb (getD flags (l * n + j) 0) 1) (lt-ltb i (j + k) (omega arith)) (until-window j i (omega arith))
-      ∙ sym (ap (window flags (l * n + a)) e ∙ window-snoc flags (l * n + a) (j - a) ∙ ap (λ (x : ℕ). window flags (l * n + a) (j - a) || eqb (getD flags x 0) 1) (add-assoc (l * n) a (j - a) ∙ ap (λ (x : ℕ). l * n + x) d)))
+      ∙ sym (ap (window flags p) e ∙ window-snoc flags p (j - a) ∙ ap (λ (x : ℕ). window flags p (j - a) || eqb (getD flags x 0) 1) (add-assoc (l * n) a (j - a) ∙ ap (λ (x : ℕ). l * n + x) d)))
     where
       a : ℕ
       a = suc i - k
 
-      early : (b : Bool) → ltb i (j + k) ≡ false → ltb i (untilAt flags n k j l) ≡ false → ltb i (pick b (j + k) (untilAt flags n k j l)) ≡ false
+      p : ℕ
+      p = l * n + a
+
+      until : ℕ
+      until = untilAt flags n k j l
+
+      early : (b : Bool) → ltb i (j + k) ≡ false → ltb i until ≡ false → ltb i (pick b (j + k) until) ≡ false
       early true p q = p
       early false p q = q
 
-      late : (b : Bool) → ltb i (j + k) ≡ true → ltb i (untilAt flags n k j l) ≡ window flags (l * n + a) (j - a) → ltb i (pick b (j + k) (untilAt flags n k j l)) ≡ (window flags (l * n + a) (j - a) || b)
-      late true p q = p ∙ sym (or-true (window flags (l * n + a) (j - a)))
-      late false p q = q ∙ sym (or-false (window flags (l * n + a) (j - a)))
+      late : (b : Bool) → ltb i (j + k) ≡ true → ltb i until ≡ window flags p (j - a) → ltb i (pick b (j + k) until) ≡ (window flags p (j - a) || b)
+      late true e q = e ∙ sym (or-true (window flags p (j - a)))
+      late false e q = q ∙ sym (or-false (window flags p (j - a)))
 
   pub window-length : (j : ℕ) → suc j - (suc j - k) ≡ min k (suc j)
-  window-length j = below-or k (suc j) (λ h. let e : suc j - (suc j - k) ≡ k = omega arith in e ∙ sym (min-eq-left (le-of-lt h))) (λ h. let e : suc j - (suc j - k) ≡ suc j = omega arith in e ∙ sym (min-eq-right h))
+  window-length j =
+      below-or k (suc j)
+      (λ h. let e : suc j - (suc j - k) ≡ k = omega arith in e ∙ sym (min-eq-left (le-of-lt h)))
+      (λ h. let e : suc j - (suc j - k) ≡ suc j = omega arith in e ∙ sym (min-eq-right h))
 
   -- a lane's answer at step j
   pub until-shown : (j : ℕ) → shown j (untilAt flags n k (suc j) l) ≡ laneWindow flags n k j l
@@ -107,10 +114,10 @@ module _ (flags : List ℕ) (n k skip j t : ℕ) (words marks : List ℕ) (few :
   mark-more = tab-ext 8 (λ l. pick (eqb (getD words l 0 / 2 ^ t % 2) 1) (j + t + k) (getD marks l 0)) (untilAt flags n k (j + t + 1)) mark-one
 
 -- what marks after step j show are the windows of step j
-pub marks-show : (flags : List ℕ) (n k skip j : ℕ) (marks x y : List ℕ) → marks ≡ tab 8 (untilAt flags n k (j + 1))
-    → Written (λ q. shown j (getD marks (q % 8) 0)) (8 * (j - skip)) (8 * (j + 1 - skip)) x y → Written (windowEntry flags n k skip) (8 * (j - skip)) (8 * (j + 1 - skip)) x y
-marks-show flags n k skip j marks x y e =
-    written-ext (λ q. shown j (getD marks (q % 8) 0)) (windowEntry flags n k skip) (8 * (j - skip)) (8 * (j + 1 - skip)) x y
+pub marks-show : (flags : List ℕ) (n k skip j : ℕ) (marks : List ℕ) {x y : List ℕ} → marks ≡ tab 8 (untilAt flags n k (j + 1))
+    → Made (marked j marks) (8 * (j - skip)) (8 * (j + 1 - skip)) x y → Made (windowEntry flags n k skip) (8 * (j - skip)) (8 * (j + 1 - skip)) x y
+marks-show flags n k skip j marks e z =
+    made-as z
     (λ q h l.
     let s : skip + q / 8 ≡ j = omega arith in
     ap (shown j) (ap (λ (m : List ℕ). getD m (q % 8) 0) e ∙ getD-tab 8 (untilAt flags n k (j + 1)) (q % 8) (omega arith) ∙ ap (λ (m : ℕ). untilAt flags n k m (q % 8)) (add-one j))
@@ -118,29 +125,25 @@ marks-show flags n k skip j marks x y e =
     ∙ ap (λ (m : ℕ). laneWindow flags n k m (q % 8)) (sym s))
 
 -- a turn grows by a step
-pub turns-more : (k skip j t : ℕ) (words marks now next x y z : List ℕ) → t < 64 → next ≡ tab 8 (λ l. pick (eqb (getD words l 0 / 2 ^ t % 2) 1) (j + t + k) (getD now l 0))
-    → Written (λ q. shown (j + t) (getD next (q % 8) 0)) (8 * (j + t - skip)) (8 * (j + t + 1 - skip)) y z → TurnsMarks k skip j t words marks now x y → TurnsMarks k skip j (t + 1) words marks next x z
-turns-more k skip j t words marks now next x y z few e w h flags n holds m =
+pub turns-more : (k skip j t : ℕ) (words : List ℕ) {marks now next x y z : List ℕ} → TurnsMarks k skip j t words marks now x y → t < 64
+    → next ≡ tab 8 (λ l. pick (eqb (getD words l 0 / 2 ^ t % 2) 1) (j + t + k) (getD now l 0))
+    → Made (marked (j + t) next) (8 * (j + t - skip)) (8 * (j + t + 1 - skip)) y z → TurnsMarks k skip j (t + 1) words marks next x z
+turns-more k skip j t words {now = now} {next} h few e w flags n holds m =
     let p = h flags n holds m in
     let q = e ∙ mark-more flags n k skip j t words now few holds (p .0) in
     let s : j + t + 1 ≡ j + (t + 1) = add-assoc j t 1 in (
       q ∙ ap (λ (i : ℕ). tab 8 (untilAt flags n k i)) s,
-      subst (λ (i : ℕ). Written (windowEntry flags n k skip) (8 * (j - skip)) (8 * (i - skip)) x z) s
-          (written-join (windowEntry flags n k skip) (8 * (j - skip)) (8 * (j + t - skip)) (8 * (j + t + 1 - skip)) x y z (omega arith) (omega arith) (p .1) (marks-show flags n k skip (j + t) next y z q w)),
+      made-to (made-on (p .1) (marks-show flags n k skip (j + t) next q w) (omega arith) (omega arith)) (ap (λ (i : ℕ). 8 * (i - skip)) s),
     )
 
 pub turns-none : (k skip j : ℕ) (words marks x : List ℕ) → TurnsMarks k skip j 0 words marks marks x x
-turns-none k skip j words marks x flags n holds m =
-    (m ∙ ap (λ (i : ℕ). tab 8 (untilAt flags n k i)) (sym (add-zero j)), written-none (windowEntry flags n k skip) (8 * (j - skip)) (8 * (j + 0 - skip)) x (omega arith))
+turns-none k skip j words marks x flags n holds m = (m ∙ ap (λ (i : ℕ). tab 8 (untilAt flags n k i)) (sym (add-zero j)), made-none (omega arith))
 
 -- the eight entries of step j
-pub marks-place : (j skip : ℕ) (marks x y : List ℕ) → skip ≤ j → Written (λ q. shown j (getD marks (q - 8 * (j - skip)) 0)) (8 * (j - skip)) (8 * (j - skip) + 8) x y
-    → Written (λ q. shown j (getD marks (q % 8) 0)) (8 * (j - skip)) (8 * (j + 1 - skip)) x y
-marks-place j skip marks x y h w =
-    let e : 8 * (j - skip) + 8 ≡ 8 * (j + 1 - skip) = omega arith in
-    written-ext (λ q. shown j (getD marks (q - 8 * (j - skip)) 0)) (λ q. shown j (getD marks (q % 8) 0)) (8 * (j - skip)) (8 * (j + 1 - skip)) x y
-    (λ q m l. let s : q - 8 * (j - skip) ≡ q % 8 = omega arith in ap (λ (i : ℕ). shown j (getD marks i 0)) s)
-    (subst (λ (b : ℕ). Written (λ q. shown j (getD marks (q - 8 * (j - skip)) 0)) (8 * (j - skip)) b x y) e w)
+pub marks-place : (j skip : ℕ) (marks : List ℕ) {x y : List ℕ} → Made (λ q. shown j (getD marks (q - 8 * (j - skip)) 0)) (8 * (j - skip)) (8 * (j - skip) + 8) x y → skip ≤ j
+    → Made (marked j marks) (8 * (j - skip)) (8 * (j + 1 - skip)) x y
+marks-place j skip marks z h =
+    made-as (made-to z (omega arith)) (λ q m l. let s : q - 8 * (j - skip) ≡ q % 8 = omega arith in ap (λ (i : ℕ). shown j (getD marks i 0)) s)
 
 pub marks-none : (flags : List ℕ) (n k : ℕ) → replicate 8 0 ≡ tab 8 (untilAt flags n k 0)
 unfolding untilAt tab

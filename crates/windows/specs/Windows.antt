@@ -27,13 +27,21 @@ abbrev pub laneWindow : List ℕ → ℕ → ℕ → ℕ → ℕ → ℕ
 laneWindow flags n k j l = pick (window flags (l * n + (suc j - k)) (min k (suc j))) 0xffff_ffff 0
 
 -- windows use entry 8 (j − skip) + l
+abbrev pub windowEntry : List ℕ → ℕ → ℕ → ℕ → ℕ → ℕ
+windowEntry flags n k skip q = laneWindow flags n k (skip + q / 8) (q % 8)
+
+-- later entries stay
 unfoldable pub windowsFilled : List ℕ → ℕ → ℕ → ℕ → ℕ → List ℕ → List ℕ
-windowsFilled flags n k skip count out = tab (8 * count) (λ e. laneWindow flags n k (skip + e / 8) (e % 8)) ++ drop (8 * count) out
+windowsFilled flags n k skip count out = tab (8 * count) (windowEntry flags n k skip) ++ drop (8 * count) out
 
 -- the running state: eight lane counts, and the step
 pub record Running : Type 0 where
   pub counts : List ℕ
   pub at : ℕ
+
+-- step 0 with zero counts
+abbrev pub atZero : Running
+atZero = record { counts = replicate 8 0; at = 0 }
 
 -- the sum of a lane's count and its entering flag
 abbrev pub summed : List ℕ → ℕ → Running → ℕ → ℕ
@@ -43,6 +51,7 @@ summed flags n s l = getD (s .counts) l 0 + laneChar flags n 0 (s .at) l
 abbrev pub leaving : List ℕ → ℕ → ℕ → Running → ℕ → ℕ
 leaving flags n k s l = laneChar flags n (k - 1) (s .at) l
 
+-- a lane below l passes the test
 abbrev pub anyLane : ℕ → (ℕ → Bool) → Bool
 anyLane zero f = false
 anyLane (suc l) f = anyLane l f || f l
@@ -64,8 +73,12 @@ stepState flags n k s = record { counts = tab 8 (λ l. summed flags n s l - leav
 abbrev pub windowTests : List ℕ → ℕ → ℕ → ℕ → ℕ → List Test
 windowTests bs o len c k = viewTests 1 (length bs) o len ++ badShape c 1 ∷ badWindow k ∷ []
 
+-- filling windows over so many flags from `skip` on, into a buffer of m entries
+abbrev pub fillTests : ℕ → ℕ → ℕ → ℕ → ℕ → List Test
+fillTests len c k skip m = badShape c 1 ∷ badWindow k ∷ badSkip (steps 1 len c 1) skip ∷ noRoom m (8 * (steps 1 len c 1 - skip)) ∷ []
+
 unfoldable pub windowsOutcome : List ℕ → ℕ → ℕ → ℕ → ℕ → ℕ → ℕ → Outcome
-windowsOutcome bs o len c k skip m = first (windowTests bs o len c k ++ badSkip (steps 1 len c 1) skip ∷ noRoom m (8 * (steps 1 len c 1 - skip)) ∷ [])
+windowsOutcome bs o len c k skip m = first (viewTests 1 (length bs) o len ++ fillTests len c k skip m)
 
 unfoldable pub windowsAnswer : List ℕ → ℕ → ℕ → ℕ → ℕ → ℕ → ℕ → Answer (ℕ × ℕ)
 unfolding windowsOutcome
@@ -76,9 +89,12 @@ unfolding windowsOutcome
 windowsAfter bs o len c k skip out =
     ifDone (windowsOutcome bs o len c k skip (length out)) (windowsFilled (chars 1 bs o len) (lane 1 len c 1) k skip (steps 1 len c 1 - skip) out) out
 
+-- one step over flags, so many
+abbrev pub runTests : List ℕ → ℕ → ℕ → ℕ → Running → List Test
+runTests flags len c k s = badShape c 1 ∷ badWindow k ∷ badStep (steps 1 len c 1) (s .at) ∷ badState flags (lane 1 len c 1) k s ∷ []
+
 unfoldable pub runOutcome : List ℕ → ℕ → ℕ → ℕ → ℕ → Running → Outcome
-runOutcome bs o len c k s =
-    first (windowTests bs o len c k ++ badStep (steps 1 len c 1) (s .at) ∷ badState (chars 1 bs o len) (lane 1 len c 1) k s ∷ [])
+runOutcome bs o len c k s = first (viewTests 1 (length bs) o len ++ runTests (chars 1 bs o len) len c k s)
 
 -- refused, zero answers, zero counts and step 0
 unfoldable pub runAnswers : List ℕ → ℕ → ℕ → ℕ → ℕ → Running → List ℕ
@@ -87,4 +103,9 @@ runAnswers bs o len c k s = ifDone (runOutcome bs o len c k s) (stepAnswers (cha
 
 unfoldable pub runState : List ℕ → ℕ → ℕ → ℕ → ℕ → Running → Running
 unfolding runOutcome
-runState bs o len c k s = ifDone (runOutcome bs o len c k s) (stepState (chars 1 bs o len) (lane 1 len c 1) k s) (record { counts = replicate 8 0; at = 0 })
+runState bs o len c k s = ifDone (runOutcome bs o len c k s) (stepState (chars 1 bs o len) (lane 1 len c 1) k s) atZero
+
+-- the state after j steps from step 0 with zero counts
+unfoldable pub ran : List ℕ → ℕ → ℕ → ℕ → ℕ → ℕ → Running
+ran bs o len c k zero = atZero
+ran bs o len c k (suc j) = runState bs o len c k (ran bs o len c k j)

@@ -1,25 +1,27 @@
 -- A view reversed word by word: the next word of output, the bytes so far, and the whole with its zeros.
 -- Assumes nothing.
 use mathlib.Core.List.{List, _++_, map}
-use mathlib.Core.Path.{_≡_, refl, sym, ap, ap₂, _∙_, subst, subst₂}
+use mathlib.Core.Path.{_≡_, sym, ap, ap₂, _∙_, subst, subst₂}
 use Prim.Native.Nat.{ℕ, _+_, _-_, _*_, _/_, _%_, _^_, _≤_, _<_}
 use native.Mathlib.Nat.{mul-add, mul-sub, mul-assoc, mul-div-cancel-left, eq-of-mul-eq-mul-left, le-of-mul-le-mul-left, le-of-eq, sub-add-cancel, mod-eq-of-lt, add-sub-of-le}
 use native.Mathlib.Omega.{arith}
 use lib.ListN.{length, take, drop, length-append, length-drop, replicate, length-reverse, length-map}
 use lib.Pow.{low, shr-shr}
 use lib.Seq.{sets, drop-append-add, drop-drop, take-append-le}
-use Rattle.codes.specs.Codes.{IsWidth, per, up, complement, chars}
+use Rattle.codes.specs.Codes.{IsWidth, per, up, trailing, complement, chars}
+use Rattle.codes.specs.Made.{Made}
 use Rattle.codes.specs.Words.{word, charsOf, flip, packed}
 use Rattle.codes.proofs.CharLaws.{length-chars, chars-fit}
-use Rattle.codes.proofs.FieldLaws.{mod-low}
-use Rattle.codes.proofs.WidthLaws.{width-pos}
-use Rattle.codes.proofs.WordLaws.{Below, flip-add, flip-lt, flip-short, flip-fits, flip-mod, flip-from, charsOf-add, charsOf-mod, length-charsOf, charsOf-take, Below-reverse, Below-through}
+use Rattle.codes.proofs.CodeLaws.{complement-fits}
+use Rattle.codes.proofs.FieldLaws.{mod-low, flip-field}
+use Rattle.codes.proofs.FlipLaws.{flip-shr}
+use Rattle.codes.proofs.MadeLaws.{made-zeros}
+use Rattle.codes.proofs.PackedLaws.{packed-is}
+use Rattle.codes.proofs.WidthLaws.{width-pos, whole}
+use Rattle.codes.proofs.WordLaws.{Below, flip-add, flip-lt, flip-short, flip-fits, flip-mod, charsOf-add, charsOf-mod, length-charsOf, charsOf-take, Below-reverse, Below-through}
 use Rattle.fields.specs.Fields.{flipped}
 use Rattle.writes.specs.Writes.{flippedOver}
-use Rattle.fields.proofs.LoadLaws.{whole}
-use Rattle.codes.specs.Zeros.{Zeroed}
-use Rattle.writes.proofs.WriteLaws.{sets-at, packed-is, zeroed-is}
-use Rattle.fields.proofs.FlipLaws.{complement-fits, shift-is, flip-field}
+use Rattle.writes.proofs.WriteLaws.{sets-at}
 
 -- only a word's low characters count in its flip
 flip-low : (w : ℕ) (f : ℕ → ℕ) (k n x : ℕ) → w * k ≤ n → flip w f k (x % 2 ^ n) ≡ flip w f k x
@@ -44,11 +46,14 @@ module _ {w : ℕ} (W : IsWidth w) (s p left x r : ℕ) (e : w * (left / w) ≡ 
   pub flip-last : left ≤ 64 → x ≡ s / 2 ^ p % 2 ^ 64 → r / 2 ^ (64 - left) ≡ flip w (complement w) (left / w) (s / 2 ^ p) % 2 ^ 64
   flip-last l ex =
       ap (λ (y : ℕ). y / 2 ^ (64 - left)) er
-      ∙ flip-from w (complement w) (complement-fits w) (64 / w) (left / w) (64 - left) x k (shift-is W 64 8 (left / w) left refl (sym e))
+      ∙ subst (λ (n : ℕ). flip w (complement w) (64 / w) x / 2 ^ (64 - n) ≡ flip w (complement w) (left / w) x) e (flip-shr W 8 (left / w) x fits)
       ∙ ap (flip w (complement w) (left / w)) ex
-      ∙ flip-low w (complement w) (left / w) 64 (s / 2 ^ p) (subst (λ (n : ℕ). n ≤ 64) (sym e) l)
+      ∙ flip-low w (complement w) (left / w) 64 (s / 2 ^ p) fits
       ∙ sym (mod-eq-of-lt (subst (λ (n : ℕ). flip w (complement w) (left / w) (s / 2 ^ p) < 2 ^ n) (whole W 8) (flip-fits w (complement w) (complement-fits w) (left / w) (64 / w) (s / 2 ^ p) k)))
     where
+      fits : w * (left / w) ≤ 64
+      fits = subst (λ (n : ℕ). n ≤ 64) (sym e) l
+
       k : left / w ≤ 64 / w
       k = le-of-mul-le-mul-left (subst₂ (λ (a b : ℕ). a ≤ b) (sym e) (sym (whole W 8)) l) (width-pos W)
 
@@ -56,15 +61,24 @@ module _ {w : ℕ} (W : IsWidth w) (s p left x r : ℕ) (e : w * (left / w) ≡ 
   pub flip-step-word : 64 ≤ left → x ≡ s / 2 ^ (p + (left - 64)) % 2 ^ 64 → r ≡ flip w (complement w) (left / w) (s / 2 ^ p) % 2 ^ 64
   flip-step-word l ex =
       er
-      ∙ ap (flip w (complement w) (64 / w)) (ex ∙ ap (λ (y : ℕ). y % 2 ^ 64) (sym (shr-shr s p (left - 64)) ∙ ap (λ (n : ℕ). s / 2 ^ p / 2 ^ n) (sym wj)))
-      ∙ flip-low w (complement w) (64 / w) 64 (s / 2 ^ p / 2 ^ (w * j)) (le-of-eq (whole W 8))
-      ∙ sym (ap (λ (n : ℕ). flip w (complement w) n (s / 2 ^ p) % 2 ^ 64) (sym jk)
-      ∙ ap (λ (y : ℕ). y % 2 ^ 64) (flip-add w (complement w) j (64 / w) (s / 2 ^ p))
-      ∙ subst (λ (n : ℕ). (flip w (complement w) j (s / 2 ^ p) * 2 ^ (w * (64 / w)) + flip w (complement w) (64 / w) (s / 2 ^ p / 2 ^ (w * j))) % 2 ^ n ≡ flip w (complement w) (64 / w) (s / 2 ^ p / 2 ^ (w * j))) (whole W 8)
-      (low (flip w (complement w) j (s / 2 ^ p)) (w * (64 / w)) (flip-lt w (complement w) (complement-fits w) (64 / w) (s / 2 ^ p / 2 ^ (w * j)))))
+      ∙ ap (flip w (complement w) (64 / w)) (ex ∙ ap (λ (y : ℕ). y % 2 ^ 64) (sym (shr-shr s p (left - 64)) ∙ ap (λ (n : ℕ). v / 2 ^ n) (sym wj)))
+      ∙ flip-low w (complement w) (64 / w) 64 (v / 2 ^ (w * j)) (le-of-eq (whole W 8))
+      ∙ sym (ap (λ (n : ℕ). flip w (complement w) n v % 2 ^ 64) (sym jk)
+      ∙ ap (λ (y : ℕ). y % 2 ^ 64) (flip-add w (complement w) j (64 / w) v)
+      ∙ subst (λ (n : ℕ). (hi * 2 ^ (w * (64 / w)) + lo) % 2 ^ n ≡ lo) (whole W 8)
+      (low hi (w * (64 / w)) (flip-lt w (complement w) (complement-fits w) (64 / w) (v / 2 ^ (w * j)))))
     where
+      v : ℕ
+      v = s / 2 ^ p
+
       j : ℕ
       j = (left - 8 * 8) / w
+
+      hi : ℕ
+      hi = flip w (complement w) j v
+
+      lo : ℕ
+      lo = flip w (complement w) (64 / w) (v / 2 ^ (w * j))
 
       jk : j + 64 / w ≡ left / w
       jk = eq-of-mul-eq-mul-left w (width-pos W) (j + 64 / w) (left / w) (mul-add w j (64 / w) ∙ ap₂ (λ (a b : ℕ). a + b) (rest-is W left 8 e l) (whole W 8) ∙ sub-add-cancel l ∙ sym e)
@@ -91,12 +105,12 @@ flip-turn {w} W v bits at old out x e l m ex eo =
         ∙ ap₂ (λ (n k : ℕ). flip w (complement w) n v / 2 ^ k) (rest-whole W bits at e l) (sym (mul-assoc w (per w) at) ∙ ap (λ (y : ℕ). y * at) (W .whole))
 
 -- the reversed view's bytes, zeros behind, and the rest of the buffer
-pub flipped-written : {w : ℕ} → IsWidth w → (s : List ℕ) → Below 8 s → (o len used m : ℕ) (old mid new : List ℕ) → used ≡ up w len → used ≤ m → m ≤ used + 48 → used + 48 ≤ length old
-    → mid ≡ charsOf 8 m (flip w (complement w) len (word 8 s / 2 ^ (w * o))) ++ drop m old → Zeroed mid used (used + 48) new → new ≡ flippedOver w s o len old
+pub flipped-written : {w : ℕ} → IsWidth w → (s : List ℕ) → Below 8 s → (o len used m : ℕ) (old mid new : List ℕ) → used ≡ up w len → used ≤ m → m ≤ used + trailing → used + trailing ≤ length old
+    → mid ≡ charsOf 8 m (flip w (complement w) len (word 8 s / 2 ^ (w * o))) ++ drop m old → Made (λ j. 0) used (used + trailing) mid new → new ≡ flippedOver w s o len old
 unfolding flippedOver
 flipped-written {w} W s b o len used m old mid new eu lo hi room em z =
-    zeroed-is mid new used 48 (subst (λ (n : ℕ). used + 48 ≤ n) (sym size) room) z
-    ∙ ap₂ (λ (p q : List ℕ). p ++ (replicate 48 0 ++ q)) front back
+    made-zeros used trailing z (subst (λ (n : ℕ). used + trailing ≤ n) (sym size) room)
+    ∙ ap₂ (λ (p q : List ℕ). p ++ (replicate trailing 0 ++ q)) front back
   where
     cs : List ℕ
     cs = flipped w (chars w s o len)
@@ -117,13 +131,13 @@ flipped-written {w} W s b o len used m old mid new eu lo hi room em z =
     front =
         ap (take used) em ∙ take-append-le used (charsOf 8 m t) (drop m old) (subst (λ (n : ℕ). used ≤ n) (sym lm) lo)
         ∙ charsOf-take 8 used m t lo
-        ∙ ap₂ (charsOf 8) (eu ∙ ap (up w) (sym long)) (sym (flip-mod w (complement w) len (word 8 s / 2 ^ (w * o))) ∙ flip-field W s b o len)
+        ∙ ap₂ (charsOf 8) (eu ∙ ap (up w) (sym long)) (flip-field W s b (complement w) o len)
         ∙ sym (packed-is W cs (Below-reverse w (map (complement w) (chars w s o len)) (Below-through w (complement w) (complement-fits w) (chars w s o len) (chars-fit w s o len))))
 
-    back : drop (used + 48) mid ≡ drop (up w len + 48) old
+    back : drop (used + trailing) mid ≡ drop (up w len + trailing) old
     back =
-        ap (drop (used + 48)) em
-        ∙ ap (λ (n : ℕ). drop n (charsOf 8 m t ++ drop m old)) (sym (ap (λ (n : ℕ). n + (used + 48 - m)) lm ∙ add-sub-of-le hi))
-        ∙ drop-append-add (charsOf 8 m t) (drop m old) (used + 48 - m)
-        ∙ drop-drop (used + 48 - m) m old
-        ∙ ap (λ (n : ℕ). drop n old) (add-sub-of-le hi ∙ ap (λ (n : ℕ). n + 48) eu)
+        ap (drop (used + trailing)) em
+        ∙ ap (λ (n : ℕ). drop n (charsOf 8 m t ++ drop m old)) (sym (ap (λ (n : ℕ). n + (used + trailing - m)) lm ∙ add-sub-of-le hi))
+        ∙ drop-append-add (charsOf 8 m t) (drop m old) (used + trailing - m)
+        ∙ drop-drop (used + trailing - m) m old
+        ∙ ap (λ (n : ℕ). drop n old) (add-sub-of-le hi ∙ ap (λ (n : ℕ). n + trailing) eu)

@@ -4,7 +4,7 @@ use mathlib.Core.List.{List, [], _∷_, _++_, map}
 use mathlib.Core.Path.{_≡_}
 use Prim.Native.Nat.{ℕ, _+_, _-_}
 use lib.ListN.{length, drop, replicate}
-use Rattle.codes.specs.Codes.{up, letter}
+use Rattle.codes.specs.Codes.{up, trailing, letter}
 use Rattle.codes.specs.Refusals.{noRoom}
 use Rattle.codes.specs.Words.{packed}
 use Rattle.fields.specs.Fields.{flipped}
@@ -16,8 +16,8 @@ pub flip-viewed : {w : ℕ} {bs : List ℕ} {o m : ℕ} {cs : List ℕ} {p n : �
     → (flipOutcome w bs o m out ≡ flipOutcome w cs p n out) × (flippedOver w bs o m out ≡ flippedOver w cs p n out)
 unfolding flipOutcome flippedOver
 flip-viewed {w} s out = (
-  viewed s (λ k. noRoom (length out) (up w k + 48) ∷ []) (λ q k xs. q),
-  viewed s (λ k. []) (λ q k xs. packed w (flipped w xs) ++ (replicate 48 0 ++ drop (up w k + 48) out)),
+  viewed s (λ k. noRoom (length out) (up w k + trailing) ∷ []) (λ q k xs. q),
+  viewed s (λ k. []) (λ q k xs. packed w (flipped w xs) ++ (replicate trailing 0 ++ drop (up w k + trailing) out)),
 )
 
 -- unpacking: its outcome, and what it writes

@@ -28,13 +28,13 @@ pub fn short() {
 
 pub fn random() {
     random_words(&mut Dice(71));
-    random_views::<2>(&mut Dice(72), 6000);
-    random_views::<1>(&mut Dice(73), 6000);
-    random_pairs::<2>(&mut Dice(74), 14000);
-    random_pairs::<1>(&mut Dice(75), 14000);
-    for seed in 0..2500 {
+    random_views::<2>(&mut Dice(72), 15000);
+    random_views::<1>(&mut Dice(73), 15000);
+    random_pairs::<2>(&mut Dice(74), 20000);
+    random_pairs::<1>(&mut Dice(75), 20000);
+    for seed in 0..3500 {
         store_cases::history::<2>(1000 + seed, 40);
-        store_cases::history::<1>(5000 + seed, 40);
+        store_cases::history::<1>(10000 + seed, 40);
     }
     random_streams::<2>(&mut Dice(76), 9000);
     random_streams::<1>(&mut Dice(77), 9000);

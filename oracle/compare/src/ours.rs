@@ -233,6 +233,11 @@ impl Ours {
         self.first.len() + self.second.len() + self.out.len()
     }
 
+    /// How many letters the first buffer holds.
+    pub fn letters(&self) -> usize {
+        self.first.len()
+    }
+
     pub fn answer(&mut self, numbers: &[usize]) -> Vec<u64> {
         let wide_one = numbers.get(1) == Some(&2);
         match numbers[0] {

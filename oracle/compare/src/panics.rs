@@ -1,6 +1,6 @@
 //! Where the original, built with its assertions, panics, and 01 refuses: ours gives the refusal's number.
 
-use crate::tally::Tally;
+use crate::tally::{Tally, With};
 use oracle::Seq;
 use oracle::packed_seq::{
     Bits, PackedSeqBase, SupportedBits, complement_char, pack_char, pack_kmer_lossy,
@@ -17,7 +17,13 @@ pub fn compare(tally: &mut Tally) {
         let panics = catch_unwind(AssertUnwindSafe(original)).is_err();
         let agree = panics && ours.is_some_and(|refusal| refusal.number() == number);
         let told = || format!("  {input}: original panics: {panics}, ours {ours:?}, 01 {number}");
-        tally.compare("refusals against panics", true, agree, input.len(), told);
+        tally.compare(
+            "refusals against panics",
+            With::Original,
+            agree,
+            input.len(),
+            told,
+        );
     };
     for byte in (0..=255).filter(|byte| !b"ACGTacgt".contains(byte)) {
         let ours = letters::pack_char(byte).err();

@@ -1,12 +1,29 @@
-//! How many comparisons were made, and where they failed.
+//! How many comparisons were made, what ours was compared with, and where they failed.
 
 use crate::ours::Ours;
 use std::{collections::BTreeMap, process::ExitCode};
 
+/// What ours is compared with.
+#[derive(Clone, Copy)]
+pub enum With {
+    /// The original's answer to the same call, or its panic.
+    Original,
+    /// What its answers to other calls make up: the original has no such call, or one that differs.
+    Parts,
+    /// The original's answer to a stream, which ours gives a second time, step by step.
+    Again,
+    /// Document 01 alone: the original was not asked.
+    Rules,
+}
+
+const HEADS: [&str; 4] = ["original", "parts", "again", "rules"];
+
+/// The least number of questions to the original.
+const LEAST: usize = 1_000_000;
+
 #[derive(Default)]
 struct Family {
-    done: usize,
-    refused: usize,
+    made: [usize; 4],
     disagreed: usize,
     /// The smallest input that disagreed, by its size.
     smallest: Option<(usize, String)>,
@@ -22,17 +39,13 @@ impl Tally {
     pub fn compare(
         &mut self,
         family: &'static str,
-        refused: bool,
+        with: With,
         agree: bool,
         size: usize,
         input: impl FnOnce() -> String,
     ) {
         let family = self.families.entry(family).or_default();
-        if refused {
-            family.refused += 1;
-        } else {
-            family.done += 1;
-        }
+        family.made[with as usize] += 1;
         if agree {
             return;
         }
@@ -43,17 +56,18 @@ impl Tally {
         }
     }
 
-    /// A case and the original's answer against ours; a stream is also stepped.
+    /// A case and its answer against ours; a stream is also stepped.
     pub fn case(&mut self, ours: &mut Ours, numbers: &[usize], answer: &[u64]) {
         let size = ours.size() + numbers.iter().map(|&n| n.min(1 << 20)).sum::<usize>();
         let before = ours.clone();
         let given = ours.answer(numbers);
         let refused = answer.first().is_some_and(|&n| n != 0);
         let told = |given: &[u64]| {
-            format!("{before}\n  call {numbers:?}\n  original {answer:?}\n  ours     {given:?}")
+            format!("{before}\n  call {numbers:?}\n  expected {answer:?}\n  ours     {given:?}")
         };
+        let with = with(numbers, refused, before.letters());
         let family = family(numbers[0]);
-        self.compare(family, refused, given == answer, size, || told(&given));
+        self.compare(family, with, given == answer, size, || told(&given));
         if let (60..=63, false) = (numbers[0], refused) {
             let stepped = before.stepped(numbers);
             let family = if numbers[0] == 63 {
@@ -61,24 +75,25 @@ impl Tally {
             } else {
                 "streams, stepped"
             };
-            self.compare(family, false, stepped == answer[3..], size, || {
-                told(&stepped)
-            });
+            let agree = stepped == answer[3..];
+            self.compare(family, With::Again, agree, size, || told(&stepped));
         }
     }
 
     pub fn report(&self) -> ExitCode {
-        let (mut all, mut wrong) = (0, 0);
-        println!(
-            "{:<28} {:>9} {:>9} {:>9}",
-            "family", "done", "refused", "disagree"
-        );
+        let mut all = [0; 4];
+        let mut wrong = 0;
+        let line = |name: &str, made: [String; 4], disagree: &str| {
+            let [original, parts, again, rules] = made;
+            println!("{name:<28} {original:>9} {parts:>9} {again:>9} {rules:>9} {disagree:>9}");
+        };
+        line("family", HEADS.map(String::from), "disagree");
         for (name, family) in &self.families {
-            println!(
-                "{name:<28} {:>9} {:>9} {:>9}",
-                family.done, family.refused, family.disagreed
-            );
-            all += family.done + family.refused;
+            let made = family.made.map(|n| n.to_string());
+            line(name, made, &family.disagreed.to_string());
+            for (sum, made) in all.iter_mut().zip(family.made) {
+                *sum += made;
+            }
             wrong += family.disagreed;
         }
         for (name, family) in &self.families {
@@ -86,12 +101,36 @@ impl Tally {
                 println!("{name}: smallest input that disagrees\n{input}");
             }
         }
-        println!("{all} comparisons, {wrong} disagreements");
-        if wrong == 0 && all >= 1_000_000 {
+        let [original, parts, again, rules] = all;
+        println!(
+            "asked of the original: {original}; held to the rules only: {rules}; \
+             made of the original's answers to other calls: {parts}; its streams again, stepped: {again}"
+        );
+        println!(
+            "{} comparisons, {wrong} disagreements",
+            all.iter().sum::<usize>()
+        );
+        if wrong == 0 && original >= LEAST {
             ExitCode::SUCCESS
         } else {
             ExitCode::FAILURE
         }
+    }
+}
+
+/// What a case's answer is taken from, as the heads of `oracle::cases` say.
+fn with(numbers: &[usize], refused: bool, letters: usize) -> With {
+    match numbers[0] {
+        // its lossy code and its flag, for every byte
+        10 => With::Original,
+        _ if refused => With::Rules,
+        // the word of an empty view
+        34 | 35 if numbers[3] == 0 => With::Rules,
+        // a push of nothing
+        51 if letters == 0 => With::Rules,
+        // find, least, clear, overwrite, cut
+        43 | 44 | 50 | 53 | 54 => With::Parts,
+        _ => With::Original,
     }
 }
 

@@ -5,6 +5,7 @@ use super::wide::u32x8;
 use std::array::from_fn;
 
 /// Lane `i` of vector `j` becomes lane `j` of vector `i`.
+#[inline(always)]
 pub fn transpose(rows: [u32x8; 8]) -> [u32x8; 8] {
     from_fn(|i| u32x8::new(from_fn(|j| rows[j].as_array()[i])))
 }

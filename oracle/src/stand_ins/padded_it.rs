@@ -12,6 +12,7 @@ pub trait Advance {
 }
 
 impl<I: ExactSizeIterator> Advance for I {
+    #[inline(always)]
     fn advance(mut self, n: usize) -> Self {
         self.by_ref().take(n).for_each(drop);
         self
@@ -24,6 +25,7 @@ pub struct PaddedIt<I> {
 }
 
 impl<I> PaddedIt<I> {
+    #[inline(always)]
     pub fn map<T, U>(self, f: impl FnMut(T) -> U) -> PaddedIt<impl ChunkIt<U>>
     where
         I: ChunkIt<T>,
@@ -34,6 +36,7 @@ impl<I> PaddedIt<I> {
         }
     }
 
+    #[inline(always)]
     pub fn advance<T>(self, n: usize) -> Self
     where
         I: ChunkIt<T>,

@@ -37,6 +37,7 @@ pub trait Seq<'s>: Sized {
     fn cmp_lcp(&self, other: &Self) -> (Ordering, usize);
 
     /// The word of the `k` characters from `pos` on.
+    #[inline(always)]
     fn read_kmer(&self, k: usize, pos: usize) -> u64 {
         self.slice(pos..pos + k).as_u64()
     }

@@ -20,7 +20,8 @@ pub extern "C" fn tsiv_bases_view(
     part_offset: &mut usize,
     part_len: &mut usize,
 ) -> u32
-    ensures { λ r. ⌜ said r (now (at .exit), now (size .exit), now («part_offset» .exit), now («part_len» .exit)) ≡ madePart 2 (now (bytes .entry)) offset len ⌝ }
+    ensures { λ r. ⌜ said r (now (at .exit), now (size .exit), now («part_offset» .exit), now («part_len» .exit))
+        ≡ madePart 2 (now (bytes .entry)) offset len ⌝ }
 {
     parts::made(2, bytes, offset, len, at, size, part_offset, part_len)
 }
@@ -37,7 +38,8 @@ pub extern "C" fn tsiv_bases_slice(
     part_offset: &mut usize,
     part_len: &mut usize,
 ) -> u32
-    ensures { λ r. ⌜ said r (now (at .exit), now (size .exit), now («part_offset» .exit), now («part_len» .exit)) ≡ slicedPart 2 (now (bytes .entry)) offset len start end ⌝ }
+    ensures { λ r. ⌜ said r (now (at .exit), now (size .exit), now («part_offset» .exit), now («part_len» .exit))
+        ≡ slicedPart 2 (now (bytes .entry)) offset len start end ⌝ }
 {
     parts::sliced(
         2,
@@ -63,7 +65,8 @@ pub extern "C" fn tsiv_bases_normalise(
     part_offset: &mut usize,
     part_len: &mut usize,
 ) -> u32
-    ensures { λ r. ⌜ said r (now (at .exit), now (size .exit), now («part_offset» .exit), now («part_len» .exit)) ≡ normalisedPart 2 (now (bytes .entry)) offset len ⌝ }
+    ensures { λ r. ⌜ said r (now (at .exit), now (size .exit), now («part_offset» .exit), now («part_len» .exit))
+        ≡ normalisedPart 2 (now (bytes .entry)) offset len ⌝ }
 {
     parts::normalised(2, bytes, offset, len, at, size, part_offset, part_len)
 }
@@ -149,7 +152,8 @@ pub extern "C" fn tsiv_bases_to_revcomp(
     out: &mut [u8],
 ) -> u32
     ensures number { λ r. ⌜ r ≡ numberOf (flipOutcome 2 (now (bytes .entry)) offset len (now (out .entry))) ⌝ }
-    ensures bytes { λ _. ⌜ now (out .exit) ≡ ifDone (flipOutcome 2 (now (bytes .entry)) offset len (now (out .entry))) (flippedOver 2 (now (bytes .entry)) offset len (now (out .entry))) (now (out .entry)) ⌝ }
+    ensures bytes { λ _. ⌜ now (out .exit) ≡ ifDone (flipOutcome 2 (now (bytes .entry)) offset len (now (out .entry)))
+        (flippedOver 2 (now (bytes .entry)) offset len (now (out .entry))) (now (out .entry)) ⌝ }
 {
     view::to_revcomp(2, bytes, offset, len, out)
 }
@@ -157,7 +161,8 @@ pub extern "C" fn tsiv_bases_to_revcomp(
 #[no_mangle]
 pub extern "C" fn tsiv_bases_unpack(bytes: &[u8], offset: usize, len: usize, out: &mut [u8]) -> u32
     ensures number { λ r. ⌜ r ≡ numberOf (unpackOutcome (now (bytes .entry)) offset len (now (out .entry))) ⌝ }
-    ensures bytes { λ _. ⌜ now (out .exit) ≡ ifDone (unpackOutcome (now (bytes .entry)) offset len (now (out .entry))) (unpackedOver (now (bytes .entry)) offset len (now (out .entry))) (now (out .entry)) ⌝ }
+    ensures bytes { λ _. ⌜ now (out .exit) ≡ ifDone (unpackOutcome (now (bytes .entry)) offset len (now (out .entry)))
+        (unpackedOver (now (bytes .entry)) offset len (now (out .entry))) (now (out .entry)) ⌝ }
 {
     view::unpack(bytes, offset, len, out)
 }

@@ -20,7 +20,8 @@ pub extern "C" fn tsiv_flags_view(
     part_offset: &mut usize,
     part_len: &mut usize,
 ) -> u32
-    ensures { λ r. ⌜ said r (now (at .exit), now (size .exit), now («part_offset» .exit), now («part_len» .exit)) ≡ madePart 1 (now (bytes .entry)) offset len ⌝ }
+    ensures { λ r. ⌜ said r (now (at .exit), now (size .exit), now («part_offset» .exit), now («part_len» .exit))
+        ≡ madePart 1 (now (bytes .entry)) offset len ⌝ }
 {
     parts::made(1, bytes, offset, len, at, size, part_offset, part_len)
 }
@@ -37,7 +38,8 @@ pub extern "C" fn tsiv_flags_slice(
     part_offset: &mut usize,
     part_len: &mut usize,
 ) -> u32
-    ensures { λ r. ⌜ said r (now (at .exit), now (size .exit), now («part_offset» .exit), now («part_len» .exit)) ≡ slicedPart 1 (now (bytes .entry)) offset len start end ⌝ }
+    ensures { λ r. ⌜ said r (now (at .exit), now (size .exit), now («part_offset» .exit), now («part_len» .exit))
+        ≡ slicedPart 1 (now (bytes .entry)) offset len start end ⌝ }
 {
     parts::sliced(
         1,
@@ -63,7 +65,8 @@ pub extern "C" fn tsiv_flags_normalise(
     part_offset: &mut usize,
     part_len: &mut usize,
 ) -> u32
-    ensures { λ r. ⌜ said r (now (at .exit), now (size .exit), now («part_offset» .exit), now («part_len» .exit)) ≡ normalisedPart 1 (now (bytes .entry)) offset len ⌝ }
+    ensures { λ r. ⌜ said r (now (at .exit), now (size .exit), now («part_offset» .exit), now («part_len» .exit))
+        ≡ normalisedPart 1 (now (bytes .entry)) offset len ⌝ }
 {
     parts::normalised(1, bytes, offset, len, at, size, part_offset, part_len)
 }
@@ -149,7 +152,8 @@ pub extern "C" fn tsiv_flags_to_revcomp(
     out: &mut [u8],
 ) -> u32
     ensures number { λ r. ⌜ r ≡ numberOf (flipOutcome 1 (now (bytes .entry)) offset len (now (out .entry))) ⌝ }
-    ensures bytes { λ _. ⌜ now (out .exit) ≡ ifDone (flipOutcome 1 (now (bytes .entry)) offset len (now (out .entry))) (flippedOver 1 (now (bytes .entry)) offset len (now (out .entry))) (now (out .entry)) ⌝ }
+    ensures bytes { λ _. ⌜ now (out .exit) ≡ ifDone (flipOutcome 1 (now (bytes .entry)) offset len (now (out .entry)))
+        (flippedOver 1 (now (bytes .entry)) offset len (now (out .entry))) (now (out .entry)) ⌝ }
 {
     view::to_revcomp(1, bytes, offset, len, out)
 }

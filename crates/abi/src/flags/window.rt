@@ -18,7 +18,8 @@ pub extern "C" fn tsiv_flags_fill_windows(
     steps: &mut usize,
     padding: &mut usize,
 ) -> u32
-    ensures answer { λ r. ⌜ said r (now (steps .exit), now (padding .exit)) ≡ windowsAnswer (now (bytes .entry)) offset len context k skip (length (now (out .entry))) ⌝ }
+    ensures answer { λ r. ⌜ said r (now (steps .exit), now (padding .exit))
+        ≡ windowsAnswer (now (bytes .entry)) offset len context k skip (length (now (out .entry))) ⌝ }
     ensures out { λ _. ⌜ now (out .exit) ≡ windowsAfter (now (bytes .entry)) offset len context k skip (now (out .entry)) ⌝ }
 {
     window::fill(bytes, offset, len, context, k, skip, out, steps, padding)
@@ -39,7 +40,8 @@ pub extern "C" fn tsiv_flags_step_windows(
 ) -> u32
     ensures number { λ r. ⌜ r ≡ numberOf (runOutcome (now (bytes .entry)) offset len context k (state (now (counts .entry)) step)) ⌝ }
     ensures answers { λ _. ⌜ now (answers .exit) ≡ runAnswers (now (bytes .entry)) offset len context k (state (now (counts .entry)) step) ⌝ }
-    ensures state { λ _. ⌜ state (now («next_counts» .exit)) (now («next_step» .exit)) ≡ runState (now (bytes .entry)) offset len context k (state (now (counts .entry)) step) ⌝ }
+    ensures state { λ _. ⌜ state (now («next_counts» .exit)) (now («next_step» .exit))
+        ≡ runState (now (bytes .entry)) offset len context k (state (now (counts .entry)) step) ⌝ }
 {
     window::step(
         bytes,

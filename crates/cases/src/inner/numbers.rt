@@ -14,7 +14,7 @@ pub fn chars(line: &[u64; 512], at: usize) -> Chars
     Chars::new(line[at] as usize)
 }
 
-pub fn word(line: &[u64; 512], at: usize) -> u64
+pub(crate) fn word(line: &[u64; 512], at: usize) -> u64
     requires { ⌜ at < 511 ⌝ }
 {
     line[at] % 0x1_0000_0000 * 0x1_0000_0000 + line[at + 1] % 0x1_0000_0000

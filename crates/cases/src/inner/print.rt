@@ -16,16 +16,16 @@ use stores::answers::Kept;
 use stores::answers::Pushed;
 use streams::answers::Filled;
 
-pub fn number(n: u64) {
+pub(crate) fn number(n: u64) {
     io::print_decimal(STDOUT_FILENO, n);
     io::write_all(STDOUT_FILENO, b" ");
 }
 
-pub fn byte(b: u8) {
+pub(crate) fn byte(b: u8) {
     number(b as u64);
 }
 
-pub fn count(n: Chars) {
+pub(crate) fn count(n: Chars) {
     number(n.count() as u64);
 }
 
@@ -67,7 +67,7 @@ fn entry(x: u32) {
     number(x as u64);
 }
 
-pub fn symbol(s: Symbol) {
+pub(crate) fn symbol(s: Symbol) {
     match s {
         Symbol::Is(x) => {
             byte(0);
@@ -77,7 +77,7 @@ pub fn symbol(s: Symbol) {
     }
 }
 
-pub fn word(w: Word) {
+pub(crate) fn word(w: Word) {
     match w {
         Word::Is(x) => {
             byte(0);
@@ -87,7 +87,7 @@ pub fn word(w: Word) {
     }
 }
 
-pub fn word128(w: Word128) {
+pub(crate) fn word128(w: Word128) {
     match w {
         Word128::Is { low, high } => {
             byte(0);
@@ -98,7 +98,7 @@ pub fn word128(w: Word128) {
     }
 }
 
-pub fn outcome(o: Outcome) {
+pub(crate) fn outcome(o: Outcome) {
     byte(o.number());
 }
 
@@ -111,7 +111,7 @@ fn order(o: Order) {
     }
 }
 
-pub fn compared(c: Compared) {
+pub(crate) fn compared(c: Compared) {
     match c {
         Compared::Is(o, n) => {
             byte(0);
@@ -122,7 +122,7 @@ pub fn compared(c: Compared) {
     }
 }
 
-pub fn ordered(c: Ordered) {
+pub(crate) fn ordered(c: Ordered) {
     match c {
         Ordered::Is(o) => {
             byte(0);
@@ -132,7 +132,7 @@ pub fn ordered(c: Ordered) {
     }
 }
 
-pub fn equality(e: Equality) {
+pub(crate) fn equality(e: Equality) {
     match e {
         Equality::Is(same) => {
             byte(0);
@@ -142,7 +142,7 @@ pub fn equality(e: Equality) {
     }
 }
 
-pub fn found(f: Found) {
+pub(crate) fn found(f: Found) {
     match f {
         Found::At(place) => {
             byte(0);
@@ -158,7 +158,7 @@ pub fn found(f: Found) {
     }
 }
 
-pub fn least(l: Least) {
+pub(crate) fn least(l: Least) {
     match l {
         Least::Is(offset, len) => {
             byte(0);

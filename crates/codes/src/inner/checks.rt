@@ -5,6 +5,7 @@ use crate::refusals::Outcome;
 use crate::refusals::Refusal;
 use crate::units::Bytes;
 use crate::units::Chars;
+use crate::units::TRAILING;
 ghost use mathlib.Core.List.{[], _∷_};
 ghost use mathlib.Core.Path.{_≡_};
 ghost use Prim.Native.Nat.{_^_, _≤_};
@@ -41,10 +42,10 @@ pub fn bad_store(w: usize, n: usize, len: Chars) -> bool
     requires { ⌜ IsWidth w ⌝ }
     ensures { λ r. ⌜ r ≡ badStore w n (len .0) .0 ⌝ }
 {
-    if n < 48 {
+    if n < TRAILING {
         return true;
     }
-    n - 48 < bytes_for(w, len).count()
+    n - TRAILING < bytes_for(w, len).count()
 }
 
 // Whether a view's characters and 48 bytes behind do not fit its n bytes.
@@ -53,10 +54,10 @@ pub fn bad_view(w: usize, n: usize, offset: Chars, len: Chars) -> bool
     requires { ⌜ n ≤ 2 ^ 28 ⌝ }
     ensures { λ r. ⌜ r ≡ badView w n (offset .0) (len .0) .0 ⌝ }
 {
-    if n < 48 {
+    if n < TRAILING {
         return true;
     }
-    let room = chars_in(w, Bytes::new(n - 48)).count();
+    let room = chars_in(w, Bytes::new(n - TRAILING)).count();
     let o = offset.count();
     if room < o {
         return true;

@@ -69,7 +69,7 @@ pub fn flip_low_pair(w: usize, low: u64, high: u64, n: usize) -> Pair
 }
 
 // The len low characters of a word in reverse, where they are from 1 to `most`.
-pub fn flipped_u64(w: usize, word: u64, len: Chars, most: usize) -> Word
+pub(crate) fn flipped_u64(w: usize, word: u64, len: Chars, most: usize) -> Word
     requires { ⌜ IsWidth w ⌝ }
     requires { ⌜ (w ≤ 2) × (w * most ≤ 64) ⌝ }
     ensures { λ r. ⌜ wordSays r ≡ answer (first (badWord 1 most (len .0) ∷ [])) (flip w (complement w) (len .0) word) 0 ⌝ }
@@ -81,7 +81,7 @@ pub fn flipped_u64(w: usize, word: u64, len: Chars, most: usize) -> Word
 }
 
 // The same of a word of two halves.
-pub fn flipped_u128(w: usize, low: u64, high: u64, len: Chars, most: usize) -> Word128
+pub(crate) fn flipped_u128(w: usize, low: u64, high: u64, len: Chars, most: usize) -> Word128
     requires { ⌜ IsWidth w ⌝ }
     requires { ⌜ (w ≤ 2) × (w * most ≤ 128) ⌝ }
     ensures { λ r. ⌜ word128Says r ≡

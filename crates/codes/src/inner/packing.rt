@@ -1,14 +1,18 @@
 // Letters to words and back, within one machine word and across two.
 use crate::inner::bits::wide;
-ghost use mathlib.Core.List.{_++_, map};
+use crate::refusals::Outcome;
+use crate::refusals::Refusal;
+use crate::units::Chars;
+ghost use mathlib.Core.List.{[], _∷_, _++_, map};
 ghost use mathlib.Core.Path.{_≡_};
 ghost use Prim.Native.Nat.{_+_, _*_, _%_, _^_, _≤_};
 ghost use lib.ListN.{length, drop};
 ghost use Rattle.codes.specs.Codes.{lossy, letter};
+ghost use Rattle.codes.specs.Refusals.{first, ifDone, badWord, noRoom};
 ghost use Rattle.codes.specs.Words.{word, charsOf};
 
 // The word of at most 32 letters.
-pub fn pack(letters: &[u8]) -> u64
+pub(crate) fn pack(letters: &[u8]) -> u64
     requires { ⌜ length (now letters) ≤ 32 ⌝ }
     ensures { λ r. ⌜ r ≡ word 2 (map lossy (now (letters .entry))) ⌝ }
 {
@@ -24,14 +28,14 @@ pub fn pack(letters: &[u8]) -> u64
 const LETTERS: [u8; 4] = [65, 67, 84, 71];
 
 // The capital letter of the lowest base of a byte.
-pub fn letter_of(x: u8) -> u8
+pub fn low_letter(x: u8) -> u8
     ensures { λ r. ⌜ r ≡ letter (x % 4) ⌝ }
 {
     LETTERS[(x % 4) as usize]
 }
 
 // Writes the k low bases of x as letters.
-pub fn unpack(x: u64, k: usize, out: &mut [u8])
+pub(crate) fn unpack(x: u64, k: usize, out: &mut [u8])
     requires { ⌜ (k ≤ 32) × (k ≤ length (now out)) ⌝ }
     ensures { λ _. ⌜ now (out .exit) ≡ map letter (charsOf 2 k x) ++ drop k (now (out .entry)) ⌝ }
 {
@@ -39,14 +43,14 @@ pub fn unpack(x: u64, k: usize, out: &mut [u8])
     let mut i: usize = 0;
     while i < k {
         let c = (rest % 4) as u8;
-        out[i] = letter_of(c);
+        out[i] = low_letter(c);
         rest = rest / 4;
         i += 1;
     }
 }
 
 // Writes the k low bases of a word of two halves.
-pub fn unpack_pair(low: u64, high: u64, k: usize, out: &mut [u8])
+pub(crate) fn unpack_pair(low: u64, high: u64, k: usize, out: &mut [u8])
     requires { ⌜ (k ≤ 64) × (k ≤ length (now out)) ⌝ }
     ensures { λ _. ⌜ now (out .exit) ≡ map letter (charsOf 2 k (high * 2 ^ 64 + low)) ++ drop k (now (out .entry)) ⌝ }
 {
@@ -56,4 +60,22 @@ pub fn unpack_pair(low: u64, high: u64, k: usize, out: &mut [u8])
         unpack(low, 32, out);
         unpack(high, k - 32, &mut out[32..]);
     }
+}
+
+// Writes the k low bases of a word of two halves, where k is at most `most` and the buffer has room.
+pub(crate) fn unpack_up_to(low: u64, high: u64, k: Chars, most: usize, out: &mut [u8]) -> Outcome
+    requires { ⌜ most ≤ 64 ⌝ }
+    ensures outcome { λ r. ⌜ r ≡ first (badWord 0 most (k .0) ∷ noRoom (length (now (out .entry))) (k .0) ∷ []) ⌝ }
+    ensures bytes { λ r. ⌜ now (out .exit) ≡
+        ifDone r (map letter (charsOf 2 (k .0) (high * 2 ^ 64 + low)) ++ drop (k .0) (now (out .entry))) (now (out .entry)) ⌝ }
+{
+    let n = k.count();
+    if most < n {
+        return Outcome::Refused(Refusal::BadWord);
+    }
+    if out.len() < n {
+        return Outcome::Refused(Refusal::NoRoom);
+    }
+    unpack_pair(low, high, n, out);
+    Outcome::Done
 }

@@ -8,7 +8,7 @@ ghost use mathlib.Core.Path.{_≡_};
 ghost use Prim.Native.Nat.{ℕ, _+_, _*_, _/_, _%_, _^_, _≤_, _<_};
 ghost use lib.ListN.{length};
 ghost use Rattle.codes.specs.Codes.{IsWidth, per, charAt, code};
-ghost use Rattle.codes.specs.Zeros.{Zeroed};
+ghost use Rattle.codes.specs.Made.{Made};
 
 // Character k of a byte.
 pub fn digit(byte: u8, w: usize, k: usize) -> u8
@@ -54,7 +54,7 @@ pub fn code_of(w: usize, letter: u8) -> u8
 // Zeros from byte `from` up to byte `to`.
 pub fn zero_run(buffer: &mut [u8], from: usize, to: usize)
     requires { ⌜ (from ≤ to) × (to ≤ length (now buffer)) ⌝ }
-    ensures { λ _. ⌜ Zeroed (now (buffer .entry)) from to (now (buffer .exit)) ⌝ }
+    ensures { λ _. ⌜ Made (λ j. 0) from to (now (buffer .entry)) (now (buffer .exit)) ⌝ }
 {
     let mut j = from;
     while j < to {

@@ -30,7 +30,8 @@ pub fn made(
     part_len: &mut usize,
 ) -> u32
     requires { ⌜ IsWidth w ⌝ }
-    ensures { λ r. ⌜ said r (now (at .exit), now (size .exit), now («part_offset» .exit), now («part_len» .exit)) ≡ madePart w (now (bytes .entry)) offset len ⌝ }
+    ensures { λ r. ⌜ said r (now (at .exit), now (size .exit), now («part_offset» .exit), now («part_len» .exit))
+        ≡ madePart w (now (bytes .entry)) offset len ⌝ }
 {
     let outcome = view_outcome(w, bytes, Chars::new(offset), Chars::new(len));
     give::part(
@@ -59,7 +60,8 @@ pub fn sliced(
     part_len: &mut usize,
 ) -> u32
     requires { ⌜ IsWidth w ⌝ }
-    ensures { λ r. ⌜ said r (now (at .exit), now (size .exit), now («part_offset» .exit), now («part_len» .exit)) ≡ slicedPart w (now (bytes .entry)) offset len start end ⌝ }
+    ensures { λ r. ⌜ said r (now (at .exit), now (size .exit), now («part_offset» .exit), now («part_len» .exit))
+        ≡ slicedPart w (now (bytes .entry)) offset len start end ⌝ }
 {
     let numbers = slice_numbers(
         w,
@@ -94,7 +96,8 @@ pub fn normalised(
     part_len: &mut usize,
 ) -> u32
     requires { ⌜ IsWidth w ⌝ }
-    ensures { λ r. ⌜ said r (now (at .exit), now (size .exit), now («part_offset» .exit), now («part_len» .exit)) ≡ normalisedPart w (now (bytes .entry)) offset len ⌝ }
+    ensures { λ r. ⌜ said r (now (at .exit), now (size .exit), now («part_offset» .exit), now («part_len» .exit))
+        ≡ normalisedPart w (now (bytes .entry)) offset len ⌝ }
 {
     let o = Chars::new(offset);
     let l = Chars::new(len);
@@ -117,7 +120,7 @@ pub fn normalised(
 fn comes_second(w: usize, a: &[u8], ao: Chars, al: Chars, b: &[u8], bo: Chars, bl: Chars) -> bool
     requires { ⌜ IsWidth w ⌝ }
     requires { ⌜ pairOutcome w (now a) (ao .0) (al .0) (now b) (bo .0) (bl .0) ≡ Done ⌝ }
-    ensures { λ r. ⌜ r ≡ isSecond w (now (a .entry)) (ao .0) (al .0) (now (b .entry)) (bo .0) (bl .0) (pairOrder w (now (a .entry)) (ao .0) (al .0) (now (b .entry)) (bo .0) (bl .0)) ⌝ }
+    ensures { λ r. ⌜ r ≡ isSecond (pairOrder w (now (a .entry)) (ao .0) (al .0) (now (b .entry)) (bo .0) (bl .0)) ⌝ }
 {
     let order = order_of(w, a, ao, al, b, bo, bl);
     match order {
@@ -143,7 +146,8 @@ pub fn least(
     part_len: &mut usize,
 ) -> u32
     requires { ⌜ IsWidth w ⌝ }
-    ensures { λ r. ⌜ said {A = Bool × Part} r (now (second .exit), (now (at .exit), now (size .exit), now («part_offset» .exit), now («part_len» .exit))) ≡ leastPart w (now (a .entry)) ao al (now (b .entry)) bo bl ⌝ }
+    ensures { λ r. ⌜ said {A = Bool × Part} r (now (second .exit), (now (at .exit), now (size .exit), now («part_offset» .exit), now («part_len» .exit)))
+        ≡ leastPart w (now (a .entry)) ao al (now (b .entry)) bo bl ⌝ }
 {
     let x = Chars::new(ao);
     let m = Chars::new(al);

@@ -30,7 +30,8 @@ pub fn push_ascii(
     end: &mut usize,
 ) -> u32
     requires { ⌜ IsWidth w ⌝ }
-    ensures says { λ r. ⌜ said r (now (start .exit), now (end .exit), now (len .exit)) ≡ answered w (length (now (buffer .entry))) (now (len .entry)) (Stores.pushAscii (now (letters .entry))) ⌝ }
+    ensures says { λ r. ⌜ said r (now (start .exit), now (end .exit), now (len .exit))
+        ≡ answered w (length (now (buffer .entry))) (now (len .entry)) (Stores.pushAscii (now (letters .entry))) ⌝ }
     ensures bytes { λ _. ⌜ now (buffer .exit) ≡ after w (now (buffer .entry)) (now (len .entry)) (Stores.pushAscii (now (letters .entry))) ⌝ }
 {
     give::pushed(
@@ -52,7 +53,8 @@ pub fn push_seq(
     end: &mut usize,
 ) -> u32
     requires { ⌜ IsWidth w ⌝ }
-    ensures says { λ r. ⌜ said r (now (start .exit), now (end .exit), now (len .exit)) ≡ answered w (length (now (buffer .entry))) (now (len .entry)) (Stores.pushSeq (now (bytes .entry)) offset count) ⌝ }
+    ensures says { λ r. ⌜ said r (now (start .exit), now (end .exit), now (len .exit))
+        ≡ answered w (length (now (buffer .entry))) (now (len .entry)) (Stores.pushSeq (now (bytes .entry)) offset count) ⌝ }
     ensures bytes { λ _. ⌜ now (buffer .exit) ≡ after w (now (buffer .entry)) (now (len .entry)) (Stores.pushSeq (now (bytes .entry)) offset count) ⌝ }
 {
     give::pushed(
@@ -72,7 +74,8 @@ pub fn push_seq(
 
 pub fn overwrite(w: usize, buffer: &mut [u8], len: &mut usize, start: usize, letters: &[u8]) -> u32
     requires { ⌜ IsWidth w ⌝ }
-    ensures says { λ r. ⌜ said r (0, 0, now (len .exit)) ≡ answered w (length (now (buffer .entry))) (now (len .entry)) (Stores.overwrite start (now (letters .entry))) ⌝ }
+    ensures says { λ r. ⌜ said r (0, 0, now (len .exit))
+        ≡ answered w (length (now (buffer .entry))) (now (len .entry)) (Stores.overwrite start (now (letters .entry))) ⌝ }
     ensures bytes { λ _. ⌜ now (buffer .exit) ≡ after w (now (buffer .entry)) (now (len .entry)) (Stores.overwrite start (now (letters .entry))) ⌝ }
 {
     give::kept(

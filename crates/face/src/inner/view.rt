@@ -138,7 +138,8 @@ pub fn to_revcomp(w: usize, bytes: &[u8], offset: usize, len: usize, out: &mut [
     requires { ⌜ IsWidth w ⌝ }
     requires { ⌜ w ≤ 2 ⌝ }
     ensures number { λ r. ⌜ r ≡ numberOf (flipOutcome w (now (bytes .entry)) offset len (now (out .entry))) ⌝ }
-    ensures bytes { λ _. ⌜ now (out .exit) ≡ ifDone (flipOutcome w (now (bytes .entry)) offset len (now (out .entry))) (flippedOver w (now (bytes .entry)) offset len (now (out .entry))) (now (out .entry)) ⌝ }
+    ensures bytes { λ _. ⌜ now (out .exit) ≡ ifDone (flipOutcome w (now (bytes .entry)) offset len (now (out .entry)))
+        (flippedOver w (now (bytes .entry)) offset len (now (out .entry))) (now (out .entry)) ⌝ }
 {
     give::no(reverse::to_revcomp(w, bytes, Chars::new(offset), Chars::new(len), out))
 }
@@ -146,7 +147,8 @@ pub fn to_revcomp(w: usize, bytes: &[u8], offset: usize, len: usize, out: &mut [
 // The letters of a view of bases.
 pub fn unpack(bytes: &[u8], offset: usize, len: usize, out: &mut [u8]) -> u32
     ensures number { λ r. ⌜ r ≡ numberOf (unpackOutcome (now (bytes .entry)) offset len (now (out .entry))) ⌝ }
-    ensures bytes { λ _. ⌜ now (out .exit) ≡ ifDone (unpackOutcome (now (bytes .entry)) offset len (now (out .entry))) (unpackedOver (now (bytes .entry)) offset len (now (out .entry))) (now (out .entry)) ⌝ }
+    ensures bytes { λ _. ⌜ now (out .exit) ≡ ifDone (unpackOutcome (now (bytes .entry)) offset len (now (out .entry)))
+        (unpackedOver (now (bytes .entry)) offset len (now (out .entry))) (now (out .entry)) ⌝ }
 {
     give::no(unpack_view(bytes, Chars::new(offset), Chars::new(len), out))
 }

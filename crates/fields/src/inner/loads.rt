@@ -33,7 +33,7 @@ fn load32(bytes: &[u8], at: usize) -> u64
 }
 
 // Eight bytes from `at` on.
-pub fn load64(bytes: &[u8], at: usize) -> u64
+pub(crate) fn load64(bytes: &[u8], at: usize) -> u64
     requires { ⌜ at + 8 ≤ length (now bytes) ⌝ }
     ensures { λ r. ⌜ r ≡ word 8 (now (bytes .entry)) / 2 ^ (8 * at) % 2 ^ 64 ⌝ }
 {
@@ -59,7 +59,7 @@ pub fn bits_at(bytes: &[u8], p: usize, n: usize) -> u64
 }
 
 // The n bits from bit p on, in two halves.
-pub fn bits_pair_at(bytes: &[u8], p: usize, n: usize) -> Pair
+pub(crate) fn bits_pair_at(bytes: &[u8], p: usize, n: usize) -> Pair
     requires { ⌜ (n ≤ 128) × (p < 2 ^ 63) × (p / 8 + 17 ≤ length (now bytes)) ⌝ }
     ensures { λ r. ⌜ r .high * 2 ^ 64 + r .low ≡ word 8 (now (bytes .entry)) / 2 ^ p % 2 ^ n ⌝ }
 {

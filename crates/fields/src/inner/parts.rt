@@ -10,6 +10,7 @@ use codes::letters::Symbol;
 use codes::refusals::Outcome;
 use codes::refusals::Refusal;
 use codes::units::Chars;
+use codes::units::TRAILING;
 ghost use mathlib.Core.Path.{_≡_};
 ghost use Prim.Native.Nat.{_+_, _-_, _%_};
 ghost use lib.ListN.{length};
@@ -166,7 +167,7 @@ pub fn accepted_part<'a>(w: usize, bytes: &'a [u8], offset: Chars, len: Chars) -
 {
     let from = byte_of(w, offset).count();
     let used = bytes_for(w, Chars::new(offset.count() + len.count()));
-    let to = used.count() + 48;
+    let to = used.count() + TRAILING;
     &bytes[from..to]
 }
 

@@ -1,4 +1,5 @@
 // Numbers in groups of seven bits, low group first, the top bit set on all but the last byte, in shortest form.
+use codes::inner::bits::wide;
 ghost use mathlib.Core.List.{_++_};
 ghost use mathlib.Core.Path.{_≡_};
 ghost use Prim.Native.Nat.{_≤_, _<_, _^_};
@@ -10,12 +11,6 @@ ghost use Rattle.forms.specs.Numbers.{spelt, spelling, led, Fits};
 pub enum Spelled {
     Is { value: u64, size: usize },
     Bad,
-}
-
-fn wide(x: u8) -> u64
-    ensures { λ r. ⌜ r ≡ x ⌝ }
-{
-    x as u64
 }
 
 // The bytes that n takes.
@@ -39,7 +34,7 @@ pub fn spelt_size(n: u64) -> usize
 }
 
 // Writes n.
-pub fn spell(n: u64, out: &mut [u8])
+pub(crate) fn spell(n: u64, out: &mut [u8])
     requires { ⌜ (n < 2 ^ 35) × (length (spelt 5 n) ≤ length (now out)) ⌝ }
     ensures { λ _. ⌜ now (out .exit) ≡ spelt 5 n ++ drop (length (spelt 5 n)) (now (out .entry)) ⌝ }
 {
@@ -77,7 +72,7 @@ fn lead(byte: u8, rest: Spelled) -> Spelled
 }
 
 // The number that the bytes begin with: from the fifth byte back to the first, each leads what stands behind it.
-pub fn read_number(bytes: &[u8]) -> Spelled
+pub(crate) fn read_number(bytes: &[u8]) -> Spelled
     ensures { λ r. ⌜ spelledSays r ≡ spelling 5 (now (bytes .entry)) ⌝ }
 {
     let mut read = Spelled::Bad;

@@ -11,7 +11,6 @@ use codes::units::Chars;
 ghost use mathlib.Core.Option.{none};
 ghost use mathlib.Core.Path.{_≡_};
 ghost use Prim.Native.Nat.{_≤_, _<_, _^_};
-ghost use lib.ListN.{length};
 ghost use Rattle.codes.specs.Codes.{pick};
 ghost use Rattle.codes.specs.Refusals.{answer, first};
 ghost use Rattle.forms.specs.Answers.{spelledSays, checkedSays};
@@ -72,7 +71,9 @@ fn check_form(form: &[u8]) -> Spelled
 
 // Whether bytes are a form with room for it.
 fn judge(form: &[u8], base_room: usize, flag_room: usize) -> Checked
-    ensures { λ r. ⌜ checkedSays r ≡ answer (first (formTests (now (form .entry)) «base_room» «flag_room»)) (formLength (now (form .entry)), bodyOf (headOf (now (form .entry)))) (0, 0) ⌝ }
+    ensures { λ r. ⌜ checkedSays r ≡
+        answer (first (formTests (now (form .entry)) «base_room» «flag_room»))
+        (formLength (now (form .entry)), bodyOf (headOf (now (form .entry)))) (0, 0) ⌝ }
 {
     match check_form(form) {
         Spelled::Bad => Checked::Refused(Refusal::BadForm),
@@ -90,8 +91,10 @@ fn judge(form: &[u8], base_room: usize, flag_room: usize) -> Checked
 }
 
 // Whether a form can be read into buffers of so many bytes.
-pub fn check(form: &[u8], base_room: usize, flag_room: usize) -> Checked
-    ensures { λ r. ⌜ checkedSays r ≡ answer (first (readTests (now (form .entry)) «base_room» «flag_room»)) (formLength (now (form .entry)), bodyOf (headOf (now (form .entry)))) (0, 0) ⌝ }
+pub(crate) fn check(form: &[u8], base_room: usize, flag_room: usize) -> Checked
+    ensures { λ r. ⌜ checkedSays r ≡
+        answer (first (readTests (now (form .entry)) «base_room» «flag_room»))
+        (formLength (now (form .entry)), bodyOf (headOf (now (form .entry)))) (0, 0) ⌝ }
 {
     if too_long(form.len()) {
         return Checked::Refused(Refusal::TooLong);

@@ -4,12 +4,13 @@ use codes::inner::counts::byte_of;
 use codes::inner::counts::within_byte;
 use codes::inner::tracks::zero_run;
 use codes::units::Chars;
+use codes::units::TRAILING;
 use fields::inner::loads::bits_at;
 ghost use mathlib.Core.List.{_++_};
 ghost use mathlib.Core.Path.{_≡_};
 ghost use Prim.Native.Nat.{_+_, _≤_};
 ghost use lib.ListN.{length, take, drop};
-ghost use Rattle.codes.specs.Codes.{IsWidth, up, chars};
+ghost use Rattle.codes.specs.Codes.{IsWidth, up, trailing, chars};
 ghost use Rattle.codes.specs.Refusals.{first};
 ghost use Rattle.codes.specs.Words.{charsOf, packed};
 ghost use Rattle.codes.specs.declared.refusals.Outcome.the-variants.{Done};
@@ -50,17 +51,25 @@ fn pack_view(w: usize, bytes: &[u8], offset: usize, len: usize, out: &mut [u8])
 }
 
 // Writes the characters of a view packed at byte `at`.
-pub fn write_track(w: usize, bytes: &[u8], offset: usize, len: usize, out: &mut [u8], at: usize)
+pub(crate) fn write_track(
+    w: usize,
+    bytes: &[u8],
+    offset: usize,
+    len: usize,
+    out: &mut [u8],
+    at: usize,
+)
     requires { ⌜ IsWidth w ⌝ }
     requires { ⌜ first (viewTests w (length (now bytes)) offset len) ≡ Done ⌝ }
     requires { ⌜ at + up w len ≤ length (now out) ⌝ }
-    ensures { λ _. ⌜ now (out .exit) ≡ take at (now (out .entry)) ++ (packed w (chars w (now (bytes .entry)) offset len) ++ drop (at + up w len) (now (out .entry))) ⌝ }
+    ensures { λ _. ⌜ now (out .exit) ≡
+        take at (now (out .entry)) ++ (packed w (chars w (now (bytes .entry)) offset len) ++ drop (at + up w len) (now (out .entry))) ⌝ }
 {
     pack_view(w, bytes, offset, len, &mut out[at..]);
 }
 
 // Whether the bits behind n characters are zero.
-pub fn spare_clear(w: usize, n: usize, track: &[u8]) -> bool
+pub(crate) fn spare_clear(w: usize, n: usize, track: &[u8]) -> bool
     requires { ⌜ IsWidth w ⌝ }
     requires { ⌜ length (now track) ≡ up w n ⌝ }
     ensures { λ r. ⌜ r ≡ spareClear w n (now (track .entry)) ⌝ }
@@ -75,10 +84,10 @@ pub fn spare_clear(w: usize, n: usize, track: &[u8]) -> bool
 }
 
 // Writes a track into a store's buffer, and 48 zeros behind it.
-pub fn fill(track: &[u8], buffer: &mut [u8])
-    requires { ⌜ length (now track) + 48 ≤ length (now buffer) ⌝ }
+pub(crate) fn fill(track: &[u8], buffer: &mut [u8])
+    requires { ⌜ length (now track) + trailing ≤ length (now buffer) ⌝ }
     ensures { λ _. ⌜ now (buffer .exit) ≡ filledWith (now (track .entry)) (now (buffer .entry)) ⌝ }
 {
     let n = copy(track, buffer);
-    zero_run(buffer, n, n + 48);
+    zero_run(buffer, n, n + TRAILING);
 }

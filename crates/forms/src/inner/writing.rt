@@ -21,7 +21,7 @@ ghost use Rattle.forms.specs.Numbers.{spelt};
 ghost use Rattle.fields.specs.Fields.{viewTests};
 
 // The bytes of a form.
-pub fn form_size(len: Chars) -> Bytes
+pub(crate) fn form_size(len: Chars) -> Bytes
     requires { ⌜ len .0 ≤ 2 ^ 29 ⌝ }
     ensures { λ r. ⌜ r .0 ≡ formSize (len .0) ⌝ }
 {
@@ -30,7 +30,7 @@ pub fn form_size(len: Chars) -> Bytes
 }
 
 // The refusals of writing into so many bytes.
-pub fn write_outcome(
+pub(crate) fn write_outcome(
     bases: &[u8],
     ao: Chars,
     al: Chars,
@@ -77,11 +77,19 @@ fn write_head(n: u64, out: &mut [u8])
 }
 
 // Writes the form of len bases and len flags.
-pub fn write_form(bases: &[u8], ao: usize, flags: &[u8], bo: usize, len: Chars, out: &mut [u8])
+pub(crate) fn write_form(
+    bases: &[u8],
+    ao: usize,
+    flags: &[u8],
+    bo: usize,
+    len: Chars,
+    out: &mut [u8],
+)
     requires { ⌜ first (viewTests 2 (length (now bases)) ao (len .0)) ≡ Done ⌝ }
     requires { ⌜ first (viewTests 1 (length (now flags)) bo (len .0)) ≡ Done ⌝ }
     requires { ⌜ (len .0 ≤ 2 ^ 29) × (formSize (len .0) ≤ length (now out)) ⌝ }
-    ensures { λ _. ⌜ now (out .exit) ≡ stored (chars 2 (now (bases .entry)) ao (len .0)) (chars 1 (now (flags .entry)) bo (len .0)) ++ drop (formSize (len .0)) (now (out .entry)) ⌝ }
+    ensures { λ _. ⌜ now (out .exit) ≡
+        stored (chars 2 (now (bases .entry)) ao (len .0)) (chars 1 (now (flags .entry)) bo (len .0)) ++ drop (formSize (len .0)) (now (out .entry)) ⌝ }
 {
     let n = len.count();
     let base_at = 1 + spelt_size(n as u64);

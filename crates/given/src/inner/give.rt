@@ -18,15 +18,14 @@ use streams::answers::Shape;
 ghost use mathlib.Core.Path.{_≡_};
 ghost use Rattle.codes.specs.Answers.{symbolSays, wordSays, word128Says};
 ghost use Rattle.codes.specs.Refusals.{answer, number, numberOf};
-ghost use Rattle.given.specs.Face.{said};
-ghost use Rattle.given.specs.Face.{none};
+ghost use Rattle.given.specs.Face.{said, noPart};
 ghost use Rattle.forms.specs.Answers.{wroteSays, restoredSays};
 ghost use Rattle.order.specs.Answers.{comparedSays, orderedSays, equalitySays, foundSays};
 ghost use Rattle.order.specs.Order.{orderNumber};
 ghost use Rattle.stores.specs.Answers.{pushedSays, keptSays};
 ghost use Rattle.streams.specs.Answers.{shapeSays, filledSays};
 
-pub fn refusal_no(refusal: Refusal) -> u32
+pub(crate) fn refusal_no(refusal: Refusal) -> u32
     ensures { λ r. ⌜ r ≡ number refusal ⌝ }
 {
     refusal.number() as u32
@@ -38,7 +37,7 @@ pub fn no(outcome: Outcome) -> u32
     outcome.number() as u32
 }
 
-pub fn order_no(order: Order) -> i32
+pub(crate) fn order_no(order: Order) -> i32
     ensures { λ r. ⌜ r ≡ orderNumber order ⌝ }
 {
     match order {
@@ -283,7 +282,8 @@ pub fn part(
     part_offset: &mut usize,
     part_len: &mut usize,
 ) -> u32
-    ensures { λ r. ⌜ said r (now (at .exit), now (size .exit), now («part_offset» .exit), now («part_len» .exit)) ≡ answer outcome (first, bytes, offset, len) none ⌝ }
+    ensures { λ r. ⌜ said r (now (at .exit), now (size .exit), now («part_offset» .exit), now («part_len» .exit))
+        ≡ answer outcome (first, bytes, offset, len) noPart ⌝ }
 {
     match outcome {
         Outcome::Done => {

@@ -9,7 +9,7 @@ ghost use Rattle.codes.specs.declared.refusals.Outcome.the-variants.{Done};
 ghost use Rattle.fields.specs.Fields.{viewTests};
 ghost use Rattle.lanes.specs.Lanes.{laneChar, lanes};
 
-pub fn narrow(x: u64) -> u32
+pub(crate) fn narrow(x: u64) -> u32
     requires { ⌜ x < 16 ⌝ }
     ensures { λ r. ⌜ r ≡ x ⌝ }
 {

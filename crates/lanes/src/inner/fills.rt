@@ -2,27 +2,22 @@
 use crate::inner::shapes::plan_of;
 use crate::inner::turns::lane_words;
 use crate::inner::turns::write_turn;
+use codes::inner::bits::smaller;
 use codes::units::Chars;
 ghost use mathlib.Core.Path.{_≡_};
-ghost use Prim.Native.Nat.{_*_, _^_, _≤_, min};
+ghost use Prim.Native.Nat.{_*_, _^_, _≤_};
 ghost use lib.ListN.{length};
 ghost use Rattle.codes.specs.Codes.{IsWidth, chars};
+ghost use Rattle.codes.specs.Made.{Made};
 ghost use Rattle.codes.specs.Refusals.{first};
 ghost use Rattle.codes.specs.declared.refusals.Outcome.the-variants.{Done};
 ghost use Rattle.fields.specs.Fields.{viewTests};
 ghost use Rattle.lanes.specs.Lanes.{lane, steps, streamTests, filled};
-ghost use Rattle.lanes.specs.Written.{Written};
-
-pub fn smaller(m: usize, n: usize) -> usize
-    ensures { λ r. ⌜ r ≡ min m n ⌝ }
-{
-    if m < n { m } else { n }
-}
 
 // Zeros below entry `to`.
 fn zero_entries(out: &mut [u32], to: usize)
     requires { ⌜ to ≤ length (now out) ⌝ }
-    ensures { λ _. ⌜ Written (λ q. 0) 0 to (now (out .entry)) (now (out .exit)) ⌝ }
+    ensures { λ _. ⌜ Made (λ j. 0) 0 to (now (out .entry)) (now (out .exit)) ⌝ }
 {
     let mut q: usize = 0;
     while q < to {
@@ -73,7 +68,8 @@ pub fn fill_one(
     requires { ⌜ IsWidth w ⌝ }
     requires { ⌜ first (streamTests w (now bytes) (offset .0) (len .0) (context .0) factor 0 0) ≡ Done ⌝ }
     requires { ⌜ 8 * steps w (len .0) (context .0) factor ≤ length (now out) ⌝ }
-    ensures { λ _. ⌜ now (out .exit) ≡ filled (chars w (now (bytes .entry)) (offset .0) (len .0)) (lane w (len .0) (context .0) factor) (d .0) (steps w (len .0) (context .0) factor) (now (out .entry)) ⌝ }
+    ensures { λ _. ⌜ now (out .exit) ≡ filled (chars w (now (bytes .entry)) (offset .0) (len .0)) (lane w (len .0) (context .0) factor) (d .0)
+        (steps w (len .0) (context .0) factor) (now (out .entry)) ⌝ }
 {
     let p = plan_of(w, len, context, factor);
     let n = p.lane;

@@ -37,7 +37,7 @@ pub fn bad_shape(context: Chars, factor: usize) -> bool
 }
 
 // Whether a delay lies outside its range, or the first is above the second.
-pub fn bad_delays(first: Chars, second: Chars) -> bool
+pub(crate) fn bad_delays(first: Chars, second: Chars) -> bool
     ensures { λ r. ⌜ r ≡ badDelays (first .0) (second .0) .0 ⌝ }
 {
     let d = first.count();

@@ -6,10 +6,11 @@ ghost use mathlib.Core.Path.{_≡_};
 ghost use Prim.Native.Nat.{ℕ, _+_, _-_, _*_, _/_, _%_, _^_, _≤_, _<_};
 ghost use lib.ListN.{length, getD};
 ghost use Rattle.codes.specs.Codes.{IsWidth, chars};
+ghost use Rattle.codes.specs.Made.{Made};
 ghost use Rattle.codes.specs.Refusals.{first};
 ghost use Rattle.codes.specs.declared.refusals.Outcome.the-variants.{Done};
 ghost use Rattle.fields.specs.Fields.{viewTests};
-ghost use Rattle.lanes.specs.Written.{Written, Holds, turned};
+ghost use Rattle.lanes.specs.Turns.{Holds, turned};
 
 // The characters from character i of the view on, as many as 64 bits hold; zeros from the end on.
 fn lane_word(w: usize, turn: usize, bytes: &[u8], offset: usize, len: usize, i: usize) -> u64
@@ -56,7 +57,7 @@ pub fn lane_words(
 fn write_step(w: usize, words: [u64; 8], s: usize, out: &mut [u32], e: usize)
     requires { ⌜ IsWidth w ⌝ }
     requires { ⌜ (s < 64) × (e + 8 ≤ length (now out)) ⌝ }
-    ensures { λ _. ⌜ Written (λ q. getD words (q - e) 0 / 2 ^ s % 2 ^ w) e (e + 8) (now (out .entry)) (now (out .exit)) ⌝ }
+    ensures { λ _. ⌜ Made (λ q. getD words (q - e) 0 / 2 ^ s % 2 ^ w) e (e + 8) (now (out .entry)) (now (out .exit)) ⌝ }
 {
     let mut l: usize = 0;
     while l < 8 {
@@ -66,10 +67,10 @@ fn write_step(w: usize, words: [u64; 8], s: usize, out: &mut [u32], e: usize)
 }
 
 // Writes the first `count` characters of eight words from entry e on, a step at a time.
-pub fn write_turn(w: usize, words: [u64; 8], count: usize, out: &mut [u32], e: usize)
+pub(crate) fn write_turn(w: usize, words: [u64; 8], count: usize, out: &mut [u32], e: usize)
     requires { ⌜ IsWidth w ⌝ }
     requires { ⌜ (w * count ≤ 64) × (e + 8 * count ≤ length (now out)) ⌝ }
-    ensures { λ _. ⌜ Written (turned w words e) e (e + 8 * count) (now (out .entry)) (now (out .exit)) ⌝ }
+    ensures { λ _. ⌜ Made (turned w words e) e (e + 8 * count) (now (out .entry)) (now (out .exit)) ⌝ }
 {
     let mut t: usize = 0;
     while t < count {

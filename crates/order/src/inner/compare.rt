@@ -4,22 +4,16 @@ use crate::answers::Equality;
 use crate::answers::Order;
 use crate::answers::Ordered;
 use crate::inner::pairs::pair_outcome;
+use codes::inner::bits::smaller;
 use codes::inner::tracks::char_at;
 use codes::refusals::Outcome;
 use codes::units::Chars;
 use fields::inner::loads::peek;
 ghost use mathlib.Core.Path.{_≡_};
-ghost use Prim.Native.Nat.{min};
 ghost use Rattle.codes.specs.Codes.{IsWidth, chars};
 ghost use Rattle.codes.specs.declared.refusals.Outcome.the-variants.{Done};
 ghost use Rattle.order.specs.Answers.{comparedSays, orderedSays, equalitySays};
 ghost use Rattle.order.specs.Order.{common, pairOutcome, pairOrder, compared, ordered, equalled};
-
-fn smaller(m: usize, n: usize) -> usize
-    ensures { λ r. ⌜ r ≡ min m n ⌝ }
-{
-    if m < n { m } else { n }
-}
 
 // The count of equal leading characters: 56 bits a turn.
 fn lcp_words(w: usize, a: &[u8], ao: usize, al: usize, b: &[u8], bo: usize, bl: usize) -> usize
@@ -45,7 +39,7 @@ fn lcp_words(w: usize, a: &[u8], ao: usize, al: usize, b: &[u8], bo: usize, bl: 
 }
 
 // The count of equal leading characters of two views.
-pub fn lcp(w: usize, a: &[u8], ao: Chars, al: Chars, b: &[u8], bo: Chars, bl: Chars) -> usize
+pub(crate) fn lcp(w: usize, a: &[u8], ao: Chars, al: Chars, b: &[u8], bo: Chars, bl: Chars) -> usize
     requires { ⌜ IsWidth w ⌝ }
     requires { ⌜ pairOutcome w (now a) (ao .0) (al .0) (now b) (bo .0) (bl .0) ≡ Done ⌝ }
     ensures { λ r. ⌜ r ≡ common (chars w (now (a .entry)) (ao .0) (al .0)) (chars w (now (b .entry)) (bo .0) (bl .0)) ⌝ }

@@ -36,7 +36,15 @@ fn comes_second(order: Order) -> bool
 }
 
 // Which of the two comes first.
-pub fn choose(w: usize, a: &[u8], ao: Chars, al: Chars, b: &[u8], bo: Chars, bl: Chars) -> Choice
+pub fn choose(
+    w: usize,
+    a: &[u8],
+    ao: Chars,
+    al: Chars,
+    b: &[u8],
+    bo: Chars,
+    bl: Chars,
+) -> Choice
     requires { ⌜ IsWidth w ⌝ }
     ensures { λ r. ⌜ r ≡ choice w (now (a .entry)) (ao .0) (al .0) (now (b .entry)) (bo .0) (bl .0) ⌝ }
 {
@@ -56,7 +64,7 @@ pub fn choose(w: usize, a: &[u8], ao: Chars, al: Chars, b: &[u8], bo: Chars, bl:
 }
 
 // The numbers of its part.
-pub fn chosen_numbers(
+pub(crate) fn chosen_numbers(
     w: usize,
     ao: Chars,
     al: Chars,
@@ -75,7 +83,7 @@ pub fn chosen_numbers(
 }
 
 // The bytes of its part, and none of the first's beside a refusal.
-pub fn chosen_part<'a>(
+pub(crate) fn chosen_part<'a>(
     w: usize,
     a: &'a [u8],
     ao: Chars,
@@ -102,7 +110,7 @@ pub fn chosen_part<'a>(
 }
 
 // The part itself.
-pub fn least<'a>(
+pub(crate) fn least<'a>(
     w: usize,
     a: &'a [u8],
     ao: Chars,
@@ -119,7 +127,7 @@ pub fn least<'a>(
 }
 
 // The offset and the length in that part.
-pub fn least_numbers(
+pub(crate) fn least_numbers(
     w: usize,
     a: &[u8],
     ao: Chars,

@@ -21,7 +21,8 @@ pub fn fill(
     steps: &mut usize,
     padding: &mut usize,
 ) -> u32
-    ensures answer { λ r. ⌜ said r (now (steps .exit), now (padding .exit)) ≡ windowsAnswer (now (bytes .entry)) offset len context k skip (length (now (out .entry))) ⌝ }
+    ensures answer { λ r. ⌜ said r (now (steps .exit), now (padding .exit))
+        ≡ windowsAnswer (now (bytes .entry)) offset len context k skip (length (now (out .entry))) ⌝ }
     ensures out { λ _. ⌜ now (out .exit) ≡ windowsAfter (now (bytes .entry)) offset len context k skip (now (out .entry)) ⌝ }
 {
     give::filled(
@@ -53,7 +54,8 @@ pub fn step(
 ) -> u32
     ensures number { λ r. ⌜ r ≡ numberOf (runOutcome (now (bytes .entry)) offset len context k (state (now (counts .entry)) step)) ⌝ }
     ensures answers { λ _. ⌜ now (answers .exit) ≡ runAnswers (now (bytes .entry)) offset len context k (state (now (counts .entry)) step) ⌝ }
-    ensures state { λ _. ⌜ state (now («next_counts» .exit)) (now («next_step» .exit)) ≡ runState (now (bytes .entry)) offset len context k (state (now (counts .entry)) step) ⌝ }
+    ensures state { λ _. ⌜ state (now («next_counts» .exit)) (now («next_step» .exit))
+        ≡ runState (now (bytes .entry)) offset len context k (state (now (counts .entry)) step) ⌝ }
 {
     let before = *counts;
     let state = Windows {

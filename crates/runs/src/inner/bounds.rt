@@ -3,7 +3,7 @@ use codes::inner::counts::byte_of;
 use codes::inner::counts::bytes_for;
 use codes::units::Chars;
 ghost use Rattle.codes.specs.Codes.{IsWidth};
-ghost use Rattle.runs.specs.Runs.{Bounded};
+ghost use Rattle.runs.specs.Bytes.{Bounded};
 
 // Where a run starts, where its whole bytes start and stop, and where it stops.
 pub struct Bounds {
@@ -14,7 +14,7 @@ pub struct Bounds {
 }
 
 // The bounds of a run from character `start` up to character `end`, whose bytes are whole from character `at` on.
-pub fn bounds_of(w: usize, start: usize, at: usize, end: usize) -> Bounds
+pub(crate) fn bounds_of(w: usize, start: usize, at: usize, end: usize) -> Bounds
     requires { ⌜ IsWidth w ⌝ }
     ensures { λ r. ⌜ Bounded w start at end r ⌝ }
 {

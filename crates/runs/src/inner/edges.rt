@@ -8,9 +8,10 @@ use codes::units::Bytes;
 ghost use mathlib.Core.List.{map};
 ghost use mathlib.Core.Path.{_≡_};
 ghost use Prim.Native.Nat.{_+_, _^_, _≤_, _<_};
-ghost use lib.ListN.{length, getD};
+ghost use lib.ListN.{length};
 ghost use Rattle.codes.specs.Codes.{IsWidth, per, code};
-ghost use Rattle.runs.specs.Runs.{Made, freshChar, freshByte};
+ghost use Rattle.codes.specs.Made.{Made};
+ghost use Rattle.runs.specs.Bytes.{freshChar, freshByte, anew};
 
 // Character k of a byte, at place i: a letter's code or 0 from `at` up to `stop`, else the old one.
 fn fresh_char(old: u8, w: usize, k: usize, i: usize, at: usize, letters: &[u8], stop: usize) -> u8
@@ -50,7 +51,7 @@ fn fresh_byte(old: u8, w: usize, b: usize, at: usize, letters: &[u8], stop: usiz
 }
 
 // The bytes from byte `from` up to byte `to`.
-pub fn edge_run(
+pub(crate) fn edge_run(
     buffer: &mut [u8],
     w: usize,
     from: usize,
@@ -61,7 +62,7 @@ pub fn edge_run(
 )
     requires { ⌜ IsWidth w ⌝ }
     requires { ⌜ (from ≤ to) × (to ≤ length (now buffer)) × (length (now buffer) ≤ 2 ^ 28) ⌝ }
-    ensures { λ _. ⌜ Made (now (buffer .entry)) from to (λ j. freshByte w (getD (now (buffer .entry)) j 0) at (map (code w) (now (letters .entry))) stop j) (now (buffer .exit)) ⌝ }
+    ensures { λ _. ⌜ Made (anew w (now (buffer .entry)) at (map (code w) (now (letters .entry))) stop) from to (now (buffer .entry)) (now (buffer .exit)) ⌝ }
 {
     let mut j = from;
     while j < to {

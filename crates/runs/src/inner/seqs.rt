@@ -9,12 +9,14 @@ use codes::inner::tracks::digit;
 use codes::inner::tracks::zero_run;
 use codes::units::Bytes;
 use codes::units::Chars;
+use codes::units::TRAILING;
 ghost use mathlib.Core.Path.{_≡_};
 ghost use Prim.Native.Nat.{ℕ, _+_, _-_, _*_, _^_, _≤_, _<_};
 ghost use lib.ListN.{length, getD};
-ghost use Rattle.codes.specs.Codes.{IsWidth, per, up, charAt};
-ghost use Rattle.codes.specs.Words.{pack};
-ghost use Rattle.runs.specs.Runs.{Made, freshChar, freshByte, seqChars, Placed, splice, written, gapChar};
+ghost use Rattle.codes.specs.Codes.{IsWidth, per, up, trailing};
+ghost use Rattle.codes.specs.Made.{Made};
+ghost use Rattle.runs.specs.Bytes.{freshChar, freshByte, anew, Placed, placedChars, placedStop};
+ghost use Rattle.runs.specs.Runs.{seqChars, spliced, written, gapChar};
 
 // Where a view goes: behind `len` characters, from character `start` on; `count` characters from its own `offset` on.
 pub struct Place {
@@ -34,8 +36,8 @@ fn gap_char(w: usize) -> u8
 fn seq_char(old: u8, w: usize, k: usize, i: usize, q: usize, p: Place, view: &[u8]) -> u8
     requires { ⌜ IsWidth w ⌝ }
     requires { ⌜ Placed w (p .len) (p .start) (p .offset) (p .count) (length (now view)) ⌝ }
-    requires { ⌜ (k < per w) × (i < up w (p .start + p .count) * per w) × (p .start ≤ i → q * per w + k ≡ p .offset + (i - p .start)) ⌝ }
-    ensures { λ r. ⌜ r ≡ freshChar w old (p .len) (seqChars w (p .len) (now (view .entry)) (p .offset) (p .count)) (up w (p .start + p .count) * per w) i k ⌝ }
+    requires { ⌜ (k < per w) × (i < placedStop w p) × (p .start ≤ i → q * per w + k ≡ p .offset + (i - p .start)) ⌝ }
+    ensures { λ r. ⌜ r ≡ freshChar w old (p .len) (placedChars w p (now (view .entry))) (placedStop w p) i k ⌝ }
 {
     if i < p.len {
         return digit(old, w, k);
@@ -55,7 +57,7 @@ fn seq_byte(old: u8, w: usize, b: usize, q: usize, p: Place, view: &[u8]) -> u8
     requires { ⌜ Placed w (p .len) (p .start) (p .offset) (p .count) (length (now view)) ⌝ }
     requires { ⌜ (b < up w (p .start + p .count)) × (b ≤ 2 ^ 28) ⌝ }
     requires { ⌜ ((k : ℕ) → k < per w → p .start ≤ b * per w + k → q * per w + k ≡ p .offset + (b * per w + k - p .start)) ⌝ }
-    ensures { λ r. ⌜ r ≡ freshByte w old (p .len) (seqChars w (p .len) (now (view .entry)) (p .offset) (p .count)) (up w (p .start + p .count) * per w) b ⌝ }
+    ensures { λ r. ⌜ r ≡ freshByte w old (p .len) (placedChars w p (now (view .entry))) (placedStop w p) b ⌝ }
 {
     let c = per_byte(w).count();
     let first = chars_in(w, Bytes::new(b)).count();
@@ -85,7 +87,8 @@ fn seq_run(buffer: &mut [u8], w: usize, from: usize, to: usize, p: Place, view: 
     requires { ⌜ IsWidth w ⌝ }
     requires { ⌜ Placed w (p .len) (p .start) (p .offset) (p .count) (length (now view)) ⌝ }
     requires { ⌜ (from ≤ to) × (to ≤ up w (p .start + p .count)) × (to ≤ length (now buffer)) × (length (now buffer) ≤ 2 ^ 28) ⌝ }
-    ensures { λ _. ⌜ Made (now (buffer .entry)) from to (λ j. freshByte w (getD (now (buffer .entry)) j 0) (p .len) (seqChars w (p .len) (now (view .entry)) (p .offset) (p .count)) (up w (p .start + p .count) * per w) j) (now (buffer .exit)) ⌝ }
+    ensures { λ _. ⌜ Made (anew w (now (buffer .entry)) (p .len) (placedChars w p (now (view .entry))) (placedStop w p)) from to
+        (now (buffer .entry)) (now (buffer .exit)) ⌝ }
 {
     let lead = byte_of(w, Chars::new(p.offset)).count();
     let first = bytes_for(w, Chars::new(p.len)).count();
@@ -101,7 +104,7 @@ fn copy_run(buffer: &mut [u8], w: usize, from: usize, to: usize, view: &[u8], of
     requires { ⌜ IsWidth w ⌝ }
     requires { ⌜ (from ≤ to) × (to ≤ length (now buffer)) ⌝ }
     requires { ⌜ up w offset + (to - from) ≤ length (now view) ⌝ }
-    ensures { λ _. ⌜ Made (now (buffer .entry)) from to (λ j. getD (now (view .entry)) (up w offset + (j - from)) 0) (now (buffer .exit)) ⌝ }
+    ensures { λ _. ⌜ Made (λ j. getD (now (view .entry)) (up w offset + (j - from)) 0) from to (now (buffer .entry)) (now (buffer .exit)) ⌝ }
 {
     let mut j = from;
     let mut i = bytes_for(w, Chars::new(offset)).count();
@@ -117,7 +120,7 @@ fn fill_seq(buffer: &mut [u8], w: usize, p: Place, view: &[u8])
     requires { ⌜ IsWidth w ⌝ }
     requires { ⌜ Placed w (p .len) (p .start) (p .offset) (p .count) (length (now view)) ⌝ }
     requires { ⌜ (length (now buffer) ≤ 2 ^ 28) × (up w (p .start + p .count) ≤ length (now buffer)) ⌝ }
-    ensures { λ _. ⌜ now (buffer .exit) ≡ pack w (length (now (buffer .entry))) (splice (charAt w (now (buffer .entry))) (p .len) (seqChars w (p .len) (now (view .entry)) (p .offset) (p .count)) (up w (p .start + p .count) * per w)) ⌝ }
+    ensures { λ _. ⌜ now (buffer .exit) ≡ spliced w (now (buffer .entry)) (p .len) (placedChars w p (now (view .entry))) (placedStop w p) ⌝ }
 {
     let end = p.start + p.count;
     let b = bounds_of(w, p.len, p.start, end);
@@ -134,10 +137,10 @@ fn fill_seq(buffer: &mut [u8], w: usize, p: Place, view: &[u8])
 pub fn write_seq(buffer: &mut [u8], w: usize, p: Place, view: &[u8])
     requires { ⌜ IsWidth w ⌝ }
     requires { ⌜ Placed w (p .len) (p .start) (p .offset) (p .count) (length (now view)) ⌝ }
-    requires { ⌜ (length (now buffer) ≤ 2 ^ 28) × (up w (p .start + p .count) + 48 ≤ length (now buffer)) ⌝ }
+    requires { ⌜ (length (now buffer) ≤ 2 ^ 28) × (up w (p .start + p .count) + trailing ≤ length (now buffer)) ⌝ }
     ensures { λ _. ⌜ now (buffer .exit) ≡ written w (now (buffer .entry)) (p .len) (seqChars w (p .len) (now (view .entry)) (p .offset) (p .count)) ⌝ }
 {
     let last = bytes_for(w, Chars::new(p.start + p.count)).count();
     fill_seq(buffer, w, p, view);
-    zero_run(buffer, last, last + 48);
+    zero_run(buffer, last, last + TRAILING);
 }

@@ -4,7 +4,8 @@ use codes::letters::pack_char_lossy;
 ghost use mathlib.Core.Path.{_≡_};
 ghost use Prim.Native.Nat.{_+_, _-_, _*_, _≤_};
 ghost use lib.ListN.{length};
-ghost use Rattle.runs.specs.Runs.{Made, lettersWord};
+ghost use Rattle.codes.specs.Made.{Made};
+ghost use Rattle.runs.specs.Bytes.{lettersWord};
 
 fn bases2(letters: &[u8], i: usize) -> u8
     requires { ⌜ i + 2 ≤ length (now letters) ⌝ }
@@ -42,10 +43,10 @@ fn flags8(letters: &[u8], i: usize) -> u8
 }
 
 // Bytes of bases from byte `from` up to byte `to`, the letters from letter `first` on.
-pub fn bases_run(buffer: &mut [u8], from: usize, to: usize, letters: &[u8], first: usize)
+pub(crate) fn bases_run(buffer: &mut [u8], from: usize, to: usize, letters: &[u8], first: usize)
     requires { ⌜ (from ≤ to) × (to ≤ length (now buffer)) ⌝ }
     requires { ⌜ first + (to - from) * 4 ≤ length (now letters) ⌝ }
-    ensures { λ _. ⌜ Made (now (buffer .entry)) from to (λ j. lettersWord 2 4 (now (letters .entry)) (first + (j - from) * 4)) (now (buffer .exit)) ⌝ }
+    ensures { λ _. ⌜ Made (λ j. lettersWord 2 4 (now (letters .entry)) (first + (j - from) * 4)) from to (now (buffer .entry)) (now (buffer .exit)) ⌝ }
 {
     let mut j = from;
     let mut i = first;
@@ -57,10 +58,10 @@ pub fn bases_run(buffer: &mut [u8], from: usize, to: usize, letters: &[u8], firs
 }
 
 // Bytes of flags from byte `from` up to byte `to`, the letters from letter `first` on.
-pub fn flags_run(buffer: &mut [u8], from: usize, to: usize, letters: &[u8], first: usize)
+pub(crate) fn flags_run(buffer: &mut [u8], from: usize, to: usize, letters: &[u8], first: usize)
     requires { ⌜ (from ≤ to) × (to ≤ length (now buffer)) ⌝ }
     requires { ⌜ first + (to - from) * 8 ≤ length (now letters) ⌝ }
-    ensures { λ _. ⌜ Made (now (buffer .entry)) from to (λ j. lettersWord 1 8 (now (letters .entry)) (first + (j - from) * 8)) (now (buffer .exit)) ⌝ }
+    ensures { λ _. ⌜ Made (λ j. lettersWord 1 8 (now (letters .entry)) (first + (j - from) * 8)) from to (now (buffer .entry)) (now (buffer .exit)) ⌝ }
 {
     let mut j = from;
     let mut i = first;

@@ -7,13 +7,15 @@ use codes::inner::counts::bytes_for;
 use codes::inner::counts::chars_in;
 use codes::inner::tracks::zero_run;
 use codes::units::Chars;
+use codes::units::TRAILING;
 ghost use mathlib.Core.List.{map};
 ghost use mathlib.Core.Path.{_≡_};
 ghost use Prim.Native.Nat.{_+_, _*_, _^_, _≤_};
-ghost use lib.ListN.{length, getD};
-ghost use Rattle.codes.specs.Codes.{IsWidth, per, up, charAt, code};
-ghost use Rattle.codes.specs.Words.{pack};
-ghost use Rattle.runs.specs.Runs.{Made, freshByte, splice, written};
+ghost use lib.ListN.{length};
+ghost use Rattle.codes.specs.Codes.{IsWidth, per, up, trailing, code};
+ghost use Rattle.codes.specs.Made.{Made};
+ghost use Rattle.runs.specs.Bytes.{anew};
+ghost use Rattle.runs.specs.Runs.{spliced, written};
 
 // The bytes from byte `from` up to byte `to`, which hold new letters alone.
 fn whole_run(
@@ -28,7 +30,7 @@ fn whole_run(
     requires { ⌜ IsWidth w ⌝ }
     requires { ⌜ (from ≤ to) × (to ≤ length (now buffer)) × (length (now buffer) ≤ 2 ^ 28) ⌝ }
     requires { ⌜ (at ≤ from * per w) × (to * per w ≤ at + length (now letters)) × (to * per w ≤ stop) ⌝ }
-    ensures { λ _. ⌜ Made (now (buffer .entry)) from to (λ j. freshByte w (getD (now (buffer .entry)) j 0) at (map (code w) (now (letters .entry))) stop j) (now (buffer .exit)) ⌝ }
+    ensures { λ _. ⌜ Made (anew w (now (buffer .entry)) at (map (code w) (now (letters .entry))) stop) from to (now (buffer .entry)) (now (buffer .exit)) ⌝ }
 {
     if w == 2 {
         bases_run(buffer, from, to, letters, from * 4 - at)
@@ -45,7 +47,7 @@ pub fn fill_letters(buffer: &mut [u8], w: usize, at: usize, letters: &[u8], stop
     requires { ⌜ length (now buffer) ≤ 2 ^ 28 ⌝ }
     requires { ⌜ up w (at + length (now letters)) ≤ length (now buffer) ⌝ }
     requires { ⌜ (at + length (now letters) ≤ stop) × (stop ≤ up w (at + length (now letters)) * per w) ⌝ }
-    ensures { λ _. ⌜ now (buffer .exit) ≡ pack w (length (now (buffer .entry))) (splice (charAt w (now (buffer .entry))) at (map (code w) (now (letters .entry))) stop) ⌝ }
+    ensures { λ _. ⌜ now (buffer .exit) ≡ spliced w (now (buffer .entry)) at (map (code w) (now (letters .entry))) stop ⌝ }
 {
     let end = at + letters.len();
     let b = bounds_of(w, at, at, end);
@@ -62,7 +64,7 @@ pub fn fill_letters(buffer: &mut [u8], w: usize, at: usize, letters: &[u8], stop
 pub fn write_letters(buffer: &mut [u8], w: usize, at: usize, letters: &[u8])
     requires { ⌜ IsWidth w ⌝ }
     requires { ⌜ length (now buffer) ≤ 2 ^ 28 ⌝ }
-    requires { ⌜ up w (at + length (now letters)) + 48 ≤ length (now buffer) ⌝ }
+    requires { ⌜ up w (at + length (now letters)) + trailing ≤ length (now buffer) ⌝ }
     ensures { λ _. ⌜ now (buffer .exit) ≡ written w (now (buffer .entry)) at (map (code w) (now (letters .entry))) ⌝ }
 {
     let end = at + letters.len();
@@ -70,5 +72,5 @@ pub fn write_letters(buffer: &mut [u8], w: usize, at: usize, letters: &[u8])
     let last = used.count();
     let stop = chars_in(w, used).count();
     fill_letters(buffer, w, at, letters, stop);
-    zero_run(buffer, last, last + 48);
+    zero_run(buffer, last, last + TRAILING);
 }

@@ -8,22 +8,23 @@ use codes::inner::counts::within_byte;
 use codes::refusals::Outcome;
 use codes::refusals::Refusal;
 use codes::units::Chars;
+use codes::units::TRAILING;
 ghost use mathlib.Core.List.{[], _∷_};
 ghost use mathlib.Core.Path.{_≡_};
 ghost use Prim.Native.Nat.{_+_, _^_, _≤_, _<_};
-ghost use Rattle.codes.specs.Codes.{IsWidth, up};
+ghost use Rattle.codes.specs.Codes.{IsWidth, up, trailing};
 ghost use Rattle.codes.specs.Refusals.{first, tooLong, badStore, badView, badEnd, noRoom};
 ghost use Rattle.runs.specs.Runs.{seqStart};
 ghost use Rattle.stores.specs.Stores.{noStore};
 
 // A clear of a buffer of `size` bytes.
-pub fn clear_outcome(size: usize) -> Outcome
-    ensures { λ r. ⌜ r ≡ first (tooLong size ∷ noRoom size 48 ∷ []) ⌝ }
+pub(crate) fn clear_outcome(size: usize) -> Outcome
+    ensures { λ r. ⌜ r ≡ first (tooLong size ∷ noRoom size trailing ∷ []) ⌝ }
 {
     if too_long(size) {
         return Outcome::Refused(Refusal::TooLong);
     }
-    if size < 48 {
+    if size < TRAILING {
         return Outcome::Refused(Refusal::NoRoom);
     }
     Outcome::Done
@@ -32,14 +33,14 @@ pub fn clear_outcome(size: usize) -> Outcome
 // Whether n characters and 48 bytes behind do not fit a buffer of `size` bytes.
 fn no_room(w: usize, size: usize, n: usize) -> bool
     requires { ⌜ IsWidth w ⌝ }
-    requires { ⌜ 48 ≤ size ⌝ }
+    requires { ⌜ trailing ≤ size ⌝ }
     ensures { λ r. ⌜ r ≡ noStore w size n .0 ⌝ }
 {
-    size - 48 < bytes_for(w, Chars::new(n)).count()
+    size - TRAILING < bytes_for(w, Chars::new(n)).count()
 }
 
 // A push of `count` letters.
-pub fn letters_outcome(w: usize, size: usize, len: Chars, count: usize) -> Outcome
+pub(crate) fn letters_outcome(w: usize, size: usize, len: Chars, count: usize) -> Outcome
     requires { ⌜ IsWidth w ⌝ }
     requires { ⌜ count < 2 ^ 63 ⌝ }
     ensures { λ r. ⌜ r ≡ first (tooLong size ∷ badStore w size (len .0) ∷ noStore w size (len .0 + count) ∷ []) ⌝ }
@@ -57,7 +58,7 @@ pub fn letters_outcome(w: usize, size: usize, len: Chars, count: usize) -> Outco
 }
 
 // An overwrite of `count` characters from `start` on, or a cut to `count` from 0 on.
-pub fn end_outcome(w: usize, size: usize, len: Chars, start: Chars, count: usize) -> Outcome
+pub(crate) fn end_outcome(w: usize, size: usize, len: Chars, start: Chars, count: usize) -> Outcome
     requires { ⌜ IsWidth w ⌝ }
     ensures { λ r. ⌜ r ≡ first (tooLong size ∷ badStore w size (len .0) ∷ badEnd (len .0) (start .0 + count) ∷ []) ⌝ }
 {
@@ -79,7 +80,7 @@ pub fn end_outcome(w: usize, size: usize, len: Chars, start: Chars, count: usize
 }
 
 // The place where a view's characters start.
-pub fn seq_start(w: usize, len: Chars, offset: Chars) -> usize
+pub(crate) fn seq_start(w: usize, len: Chars, offset: Chars) -> usize
     requires { ⌜ IsWidth w ⌝ }
     requires { ⌜ up w (len .0) ≤ 2 ^ 28 ⌝ }
     ensures { λ r. ⌜ r ≡ seqStart w (len .0) (offset .0) ⌝ }
@@ -89,7 +90,7 @@ pub fn seq_start(w: usize, len: Chars, offset: Chars) -> usize
 }
 
 // A push of `count` characters of a view of `bytes` bytes.
-pub fn seq_outcome(
+pub(crate) fn seq_outcome(
     w: usize,
     size: usize,
     len: Chars,
@@ -98,7 +99,8 @@ pub fn seq_outcome(
     count: Chars,
 ) -> Outcome
     requires { ⌜ IsWidth w ⌝ }
-    ensures { λ r. ⌜ r ≡ first (tooLong size ∷ tooLong bytes ∷ badStore w size (len .0) ∷ badView w bytes (offset .0) (count .0) ∷ noStore w size (seqStart w (len .0) (offset .0) + count .0) ∷ []) ⌝ }
+    ensures { λ r. ⌜ r ≡ first (tooLong size ∷ tooLong bytes ∷ badStore w size (len .0)
+        ∷ badView w bytes (offset .0) (count .0) ∷ noStore w size (seqStart w (len .0) (offset .0) + count .0) ∷ []) ⌝ }
 {
     if too_long(size) {
         return Outcome::Refused(Refusal::TooLong);

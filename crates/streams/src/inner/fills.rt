@@ -1,9 +1,9 @@
 // Filling: all steps of a stream into lent buffers, one for each delay besides the plain one.
 use crate::answers::Filled;
 use crate::inner::outcomes::fill_answer;
+use codes::inner::bits::smaller;
 use codes::units::Chars;
 use lanes::inner::fills::fill_one;
-use lanes::inner::fills::smaller;
 ghost use mathlib.Core.List.{[], _∷_};
 ghost use mathlib.Core.Path.{_≡_};
 ghost use lib.ListN.{length};

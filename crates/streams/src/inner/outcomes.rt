@@ -12,7 +12,7 @@ ghost use Rattle.streams.specs.Answers.{filledSays};
 ghost use Rattle.streams.specs.Streams.{stepOutcome, fillAnswer};
 
 // The refusals of a stream and of a step.
-pub fn step_outcome(
+pub(crate) fn step_outcome(
     w: usize,
     bytes: &[u8],
     offset: Chars,
@@ -39,7 +39,7 @@ pub fn step_outcome(
 }
 
 // What filling answers where the least of its buffers has so much room.
-pub fn fill_answer(
+pub(crate) fn fill_answer(
     w: usize,
     bytes: &[u8],
     offset: Chars,

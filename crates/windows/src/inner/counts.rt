@@ -25,7 +25,7 @@ fn bad_lane(most: usize, count: usize, enter: usize, leave: usize) -> bool
 }
 
 // Whether that holds of a lane.
-pub fn bad_counts(most: usize, counts: [u32; 8], enter: [u32; 8], leave: [u32; 8]) -> bool
+pub(crate) fn bad_counts(most: usize, counts: [u32; 8], enter: [u32; 8], leave: [u32; 8]) -> bool
     requires { ⌜ (most ≤ 95) × ((l : ℕ) → getD enter l 0 < 16) ⌝ }
     ensures { λ r. ⌜ r ≡ anyLane 8 (λ l. ltb most (getD counts l 0) || ltb (getD counts l 0 + getD enter l 0) (getD leave l 0)) ⌝ }
 {
@@ -47,7 +47,7 @@ fn above(sum: u32) -> u32
 }
 
 // What a step answers.
-pub fn answers_of(counts: [u32; 8], enter: [u32; 8]) -> [u32; 8]
+pub(crate) fn answers_of(counts: [u32; 8], enter: [u32; 8]) -> [u32; 8]
     requires { ⌜ ((l : ℕ) → l < 8 → (getD counts l 0 ≤ 95) × (getD enter l 0 < 16)) ⌝ }
     ensures { λ r. ⌜ r ≡ tab 8 (λ l. pick (ltb 0 (getD counts l 0 + getD enter l 0)) 0xffff_ffff 0) ⌝ }
 {
@@ -61,7 +61,7 @@ pub fn answers_of(counts: [u32; 8], enter: [u32; 8]) -> [u32; 8]
 }
 
 // The counts after a step.
-pub fn counts_after(counts: [u32; 8], enter: [u32; 8], leave: [u32; 8]) -> [u32; 8]
+pub(crate) fn counts_after(counts: [u32; 8], enter: [u32; 8], leave: [u32; 8]) -> [u32; 8]
     requires { ⌜ ((l : ℕ) → l < 8 → (getD counts l 0 ≤ 95) × (getD enter l 0 < 16) × (getD leave l 0 ≤ getD counts l 0 + getD enter l 0)) ⌝ }
     ensures { λ r. ⌜ r ≡ tab 8 (λ l. getD counts l 0 + getD enter l 0 - getD leave l 0) ⌝ }
 {

@@ -4,8 +4,8 @@ ghost use Prim.Native.Nat.{_+_, _-_, _*_, _/_, _%_, _^_, _≤_, _<_};
 ghost use lib.Dec.{eqb};
 ghost use lib.ListN.{length, getD};
 ghost use Rattle.codes.specs.Codes.{pick, tab};
-ghost use Rattle.windows.specs.Marks.{TurnsMarks, shown};
-ghost use Rattle.lanes.specs.Written.{Written};
+ghost use Rattle.codes.specs.Made.{Made};
+ghost use Rattle.windows.specs.Marks.{TurnsMarks, shown, marked};
 
 // The new mark where the low bit of x is set, else the old one.
 fn later(x: u64, stop: usize, old: usize) -> usize
@@ -38,7 +38,7 @@ fn show(j: usize, mark: usize) -> u32
 // Writes what eight marks show at step j from entry e on.
 fn write_marks(marks: [usize; 8], j: usize, out: &mut [u32], e: usize)
     requires { ⌜ e + 8 ≤ length (now out) ⌝ }
-    ensures { λ _. ⌜ Written (λ q. shown j (getD marks (q - e) 0)) e (e + 8) (now (out .entry)) (now (out .exit)) ⌝ }
+    ensures { λ _. ⌜ Made (λ q. shown j (getD marks (q - e) 0)) e (e + 8) (now (out .entry)) (now (out .exit)) ⌝ }
 {
     let mut l: usize = 0;
     while l < 8 {
@@ -50,7 +50,7 @@ fn write_marks(marks: [usize; 8], j: usize, out: &mut [u32], e: usize)
 // The same at its place, from step `skip` on.
 fn write_from(marks: [usize; 8], j: usize, skip: usize, out: &mut [u32])
     requires { ⌜ (j < 2 ^ 33) × (8 * (j + 1 - skip) ≤ length (now out)) ⌝ }
-    ensures { λ _. ⌜ Written (λ q. shown j (getD marks (q % 8) 0)) (8 * (j - skip)) (8 * (j + 1 - skip)) (now (out .entry)) (now (out .exit)) ⌝ }
+    ensures { λ _. ⌜ Made (marked j marks) (8 * (j - skip)) (8 * (j + 1 - skip)) (now (out .entry)) (now (out .exit)) ⌝ }
 {
     if skip <= j {
         write_marks(marks, j, out, 8 * (j - skip));
@@ -58,7 +58,7 @@ fn write_from(marks: [usize; 8], j: usize, skip: usize, out: &mut [u32])
 }
 
 // Marks and writes `count` steps from step j on, whose flags are the low bits of eight words.
-pub fn write_windows(
+pub(crate) fn write_windows(
     words: [u64; 8],
     count: usize,
     j: usize,

@@ -20,7 +20,13 @@ fn bad_window(k: Chars) -> bool
 }
 
 // The refusals of flag windows: a view of flags, a context and a window's length.
-pub fn window_outcome(bytes: &[u8], offset: Chars, len: Chars, context: Chars, k: Chars) -> Outcome
+pub(crate) fn window_outcome(
+    bytes: &[u8],
+    offset: Chars,
+    len: Chars,
+    context: Chars,
+    k: Chars,
+) -> Outcome
     ensures { λ r. ⌜ r ≡ first (windowTests (now (bytes .entry)) (offset .0) (len .0) (context .0) (k .0)) ⌝ }
 {
     match view_outcome(1, bytes, offset, len) {

@@ -65,7 +65,7 @@ fn run(bytes: &[u8], offset: Chars, len: Chars, context: Chars, k: Chars, state:
     }
 }
 
-pub fn step_windows(
+pub(crate) fn step_windows(
     bytes: &[u8],
     offset: Chars,
     len: Chars,

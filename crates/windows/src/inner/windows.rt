@@ -1,10 +1,10 @@
 // Flag windows: filling all steps from `skip` on.
 use crate::inner::marks::write_windows;
 use crate::inner::outcomes::window_outcome;
+use codes::inner::bits::smaller;
 use codes::refusals::Outcome;
 use codes::refusals::Refusal;
 use codes::units::Chars;
-use lanes::inner::fills::smaller;
 use lanes::inner::shapes::plan_of;
 use lanes::inner::turns::lane_words;
 use streams::answers::Filled;
@@ -89,7 +89,8 @@ fn window_one(
 )
     requires { ⌜ first (windowTests (now bytes) (offset .0) (len .0) (context .0) (k .0)) ≡ Done ⌝ }
     requires { ⌜ 8 * (steps 1 (len .0) (context .0) 1 - skip) ≤ length (now out) ⌝ }
-    ensures { λ _. ⌜ now (out .exit) ≡ windowsFilled (chars 1 (now (bytes .entry)) (offset .0) (len .0)) (lane 1 (len .0) (context .0) 1) (k .0) skip (steps 1 (len .0) (context .0) 1 - skip) (now (out .entry)) ⌝ }
+    ensures { λ _. ⌜ now (out .exit) ≡ windowsFilled (chars 1 (now (bytes .entry)) (offset .0) (len .0)) (lane 1 (len .0) (context .0) 1) (k .0) skip
+        (steps 1 (len .0) (context .0) 1 - skip) (now (out .entry)) ⌝ }
 {
     let p = plan_of(1, len, context, 1);
     let n = p.lane;
@@ -106,7 +107,7 @@ fn window_one(
     );
 }
 
-pub fn fill_windows(
+pub(crate) fn fill_windows(
     bytes: &[u8],
     offset: Chars,
     len: Chars,

@@ -1,30 +1,21 @@
 // The capital letters of a view's bases: whole bytes four letters at a time, and the bases before and behind them one at a time.
+use codes::inner::packing::low_letter;
 use codes::inner::tracks::digit;
 use codes::refusals::Outcome;
 use codes::refusals::Refusal;
 use codes::units::Chars;
 use fields::inner::parts::view_outcome;
 ghost use mathlib.Core.Path.{_≡_};
-ghost use Prim.Native.Nat.{_+_, _-_, _*_, _%_, _^_, _≤_};
+ghost use Prim.Native.Nat.{_+_, _-_, _*_, _^_, _≤_};
 ghost use lib.ListN.{length};
-ghost use Rattle.codes.specs.Codes.{letter};
+ghost use Rattle.codes.specs.Made.{Made};
 ghost use Rattle.codes.specs.Refusals.{ifDone};
-ghost use Rattle.writes.specs.Letters.{Lettered};
-ghost use Rattle.writes.specs.Writes.{unpackOutcome, unpackedOver};
-
-const LETTERS: [u8; 4] = [65, 67, 84, 71];
-
-// The letter of the lowest base of a byte.
-fn low_letter(x: u8) -> u8
-    ensures { λ r. ⌜ r ≡ letter (x % 4) ⌝ }
-{
-    LETTERS[(x % 4) as usize]
-}
+ghost use Rattle.writes.specs.Writes.{letterAt, unpackOutcome, unpackedOver};
 
 // Letters `from` up to `to`.
 fn write_some(bytes: &[u8], o: usize, from: usize, to: usize, out: &mut [u8])
     requires { ⌜ (from ≤ to) × (to ≤ length (now out)) × (o + to ≤ length (now bytes) * 4) × (length (now bytes) ≤ 2 ^ 28) ⌝ }
-    ensures { λ _. ⌜ Lettered (now (bytes .entry)) o (now (out .entry)) from to (now (out .exit)) ⌝ }
+    ensures { λ _. ⌜ Made (letterAt (now (bytes .entry)) o) from to (now (out .entry)) (now (out .exit)) ⌝ }
 {
     let mut i = from;
     while i < to {
@@ -37,7 +28,7 @@ fn write_some(bytes: &[u8], o: usize, from: usize, to: usize, out: &mut [u8])
 // The letters of bytes `at` up to `stop`.
 fn write_whole(bytes: &[u8], o: usize, at: usize, stop: usize, out: &mut [u8])
     requires { ⌜ (at ≤ stop) × (o ≤ at * 4) × (stop ≤ length (now bytes)) × (stop * 4 ≤ o + length (now out)) × (length (now bytes) ≤ 2 ^ 28) ⌝ }
-    ensures { λ _. ⌜ Lettered (now (bytes .entry)) o (now (out .entry)) (at * 4 - o) (stop * 4 - o) (now (out .exit)) ⌝ }
+    ensures { λ _. ⌜ Made (letterAt (now (bytes .entry)) o) (at * 4 - o) (stop * 4 - o) (now (out .entry)) (now (out .exit)) ⌝ }
 {
     let mut b = at;
     let mut i = at * 4 - o;
@@ -55,7 +46,7 @@ fn write_whole(bytes: &[u8], o: usize, at: usize, stop: usize, out: &mut [u8])
 // The letters of n bases from base o on.
 fn write_letters(bytes: &[u8], o: usize, n: usize, out: &mut [u8])
     requires { ⌜ (n ≤ length (now out)) × (o + n ≤ length (now bytes) * 4) × (length (now bytes) ≤ 2 ^ 28) ⌝ }
-    ensures { λ _. ⌜ Lettered (now (bytes .entry)) o (now (out .entry)) 0 n (now (out .exit)) ⌝ }
+    ensures { λ _. ⌜ Made (letterAt (now (bytes .entry)) o) 0 n (now (out .entry)) (now (out .exit)) ⌝ }
 {
     if n < 8 {
         write_some(bytes, o, 0, n, out);

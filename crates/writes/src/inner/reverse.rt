@@ -1,18 +1,19 @@
 // A view reversed, bases complemented, into a lent buffer: a word of output is the flip of a word from the view's end.
 use crate::inner::writes::store64;
 use codes::inner::counts::bytes_for;
+use codes::inner::flips::flip_word;
 use codes::inner::tracks::zero_run;
 use codes::refusals::Outcome;
 use codes::refusals::Refusal;
 use codes::units::Chars;
+use codes::units::TRAILING;
 use fields::inner::loads::bits_at;
 use fields::inner::parts::view_outcome;
-use fields::inner::words::flip_word;
 ghost use mathlib.Core.List.{_++_};
 ghost use mathlib.Core.Path.{_≡_};
 ghost use Prim.Native.Nat.{_+_, _*_, _/_, _%_, _^_, _≤_, _<_};
 ghost use lib.ListN.{length, drop};
-ghost use Rattle.codes.specs.Codes.{IsWidth, complement, up};
+ghost use Rattle.codes.specs.Codes.{IsWidth, complement, up, trailing};
 ghost use Rattle.codes.specs.Refusals.{first, ifDone};
 ghost use Rattle.codes.specs.Words.{word, charsOf, flip};
 ghost use Rattle.codes.specs.declared.refusals.Outcome.the-variants.{Done};
@@ -41,7 +42,8 @@ fn flip_words(w: usize, bytes: &[u8], p: usize, bits: usize, out: &mut [u8])
     requires { ⌜ w ≤ 2 ⌝ }
     requires { ⌜ w * (bits / w) ≡ bits ⌝ }
     requires { ⌜ (p + bits < 2 ^ 32) × (p + bits + 384 ≤ 8 * length (now bytes)) × (bits + 64 ≤ 8 * length (now out)) ⌝ }
-    ensures { λ _. ⌜ now (out .exit) ≡ charsOf 8 (8 * ((bits + 63) / 64)) (flip w (complement w) (bits / w) (word 8 (now (bytes .entry)) / 2 ^ p)) ++ drop (8 * ((bits + 63) / 64)) (now (out .entry)) ⌝ }
+    ensures { λ _. ⌜ now (out .exit) ≡ charsOf 8 (8 * ((bits + 63) / 64)) (flip w (complement w) (bits / w) (word 8 (now (bytes .entry)) / 2 ^ p))
+        ++ drop (8 * ((bits + 63) / 64)) (now (out .entry)) ⌝ }
 {
     let mut at: usize = 0;
     while 8 * at < bits {
@@ -56,11 +58,11 @@ fn write_flipped(w: usize, bytes: &[u8], o: usize, len: usize, used: usize, out:
     requires { ⌜ IsWidth w ⌝ }
     requires { ⌜ w ≤ 2 ⌝ }
     requires { ⌜ first (viewTests w (length (now bytes)) o len) ≡ Done ⌝ }
-    requires { ⌜ (used ≡ up w len) × (used + 48 ≤ length (now out)) ⌝ }
+    requires { ⌜ (used ≡ up w len) × (used + trailing ≤ length (now out)) ⌝ }
     ensures { λ _. ⌜ now (out .exit) ≡ flippedOver w (now (bytes .entry)) o len (now (out .entry)) ⌝ }
 {
     flip_words(w, bytes, w * o, w * len, out);
-    zero_run(out, used, used + 48);
+    zero_run(out, used, used + TRAILING);
 }
 
 pub fn to_revcomp(w: usize, bytes: &[u8], offset: Chars, len: Chars, out: &mut [u8]) -> Outcome
@@ -73,7 +75,7 @@ pub fn to_revcomp(w: usize, bytes: &[u8], offset: Chars, len: Chars, out: &mut [
         Outcome::Refused(refusal) => Outcome::Refused(refusal),
         Outcome::Done => {
             let used = bytes_for(w, len).count();
-            if out.len() < used + 48 {
+            if out.len() < used + TRAILING {
                 return Outcome::Refused(Refusal::NoRoom);
             }
             write_flipped(w, bytes, offset.count(), len.count(), used, out);

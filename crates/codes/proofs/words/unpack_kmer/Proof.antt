@@ -1,46 +1,17 @@
--- The tests are the definition's, in its order. Assumes nothing.
-use mathlib.Core.Path.{_≡_, refl, sym, ap, ap₂, _∙_}
-use Prim.Native.Nat.{ℕ, _+_, _-_, _*_, _^_}
-use native.Mathlib.Omega.{arith}
-use borrow.Author.Tests.{lt-ltb, le-ltb}
-use mathlib.Core.List.{_++_, map}
-use lib.ListN.{length, drop}
-use Rattle.codes.specs.Codes.{letter}
-use Rattle.codes.specs.Words.{charsOf}
+-- A word is one of two halves, the high one 0. Assumes nothing.
 use borrow.Author.Needs.{needs}
-use Rattle.codes.proofs.RefusalLaws.{ltb-zero}
+use native.Mathlib.Nat.{zero-mul, zero-add}
 use Rattle.codes.proofs.words.unpack_kmer.Statement.{statement}
 use Rattle.codes.proofs.words.unpack_kmer.Tie as tie
 
-count-requires : tie.Need-count-requires
-count-requires c κs = search needs
-
-returns : tie.Need-returns
-returns c =
-    let k : ℕ = c .before .before .before .args .k .0 in
-    (simp (ltb-zero, lt-ltb 32 k (omega arith)), refl)
-
-returns-2 : tie.Need-returns-2
-returns-2 c =
-    let a = c .before .before .before .before .args in
-    let k : ℕ = a .k .0 in
-    (simp (ltb-zero, le-ltb 32 k (omega arith), lt-ltb (length (a .out .now)) k (omega arith)), refl)
-
-unpack-requires : tie.Need-unpack-requires
-unpack-requires c κs = search needs
+unpack-up-to-requires : tie.Need-unpack-up-to-requires
+unpack-up-to-requires c κs = search needs
 
 same-length : tie.Need-same-length
 same-length c = search needs
 
-returns-3 : tie.Need-returns-3
-returns-3 c =
-    let s = c .before .before .before .before .before .before in
-    let a = s .before .before .args in
-    let k : ℕ = a .k .0 in (
-      simp (ltb-zero, le-ltb 32 k (omega arith), le-ltb (length (a .out .now)) k (omega arith)),
-      c .before .before .unpack .ensures ∙ ap (λ (n : ℕ). map letter (charsOf 2 n (a .word)) ++ drop n (a .out .now)) (s .count .ensures),
-    )
+returns : tie.Need-returns
+returns c = simp (zero-mul, zero-add) at (c .before .before .unpack-up-to .ensures)
 
 pub unpack-kmer-spec : {M : Type 1} → statement M
-unpack-kmer-spec =
-    tie.close (tie.spec count-requires returns returns-2 unpack-requires same-length returns-3)
+unpack-kmer-spec = tie.close (tie.spec unpack-up-to-requires same-length returns)

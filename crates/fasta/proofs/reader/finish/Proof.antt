@@ -1,8 +1,11 @@
 -- Each state's own lines. Assumes nothing.
-use mathlib.Core.Path.{refl}
+use mathlib.Core.List.{List}
+use mathlib.Core.Path.{_≡_, refl}
+use Prim.Native.Nat.{ℕ}
 use native.Mathlib.Omega.{arith}
+use Rattle.fasta.specs.declared.reader.Reader.{Reader}
 use Rattle.fasta.specs.declared.reader.Reader.the-variants as Reader
-use Rattle.fasta.proofs.CaseLaws.{ends-in, ends-none}
+use Rattle.fasta.proofs.CaseLaws.{Closing, Ending, ends-in, ends-none}
 use Rattle.fasta.proofs.RowLaws.{total-length}
 use Rattle.fasta.proofs.FrontLaws.{put-place, put-onto}
 use borrow.Author.Needs.{needs}
@@ -13,6 +16,17 @@ returns : tie.Need-returns
 returns c =
     let a = c .before .before .args in
     ends-none (a .reader) (a .bases .now) (a .flags .now) (a .other .now) (a .out .now) (c .if1 .taken)
+
+-- with room to write, it is what is written in its state
+state : (e : tie.Else1) (x : Reader)
+    → let a = e .before .before .args in
+    a .reader ≡ x
+    → (r : ℕ) (other out : List ℕ)
+    → Closing (a .bases .now) (a .flags .now) (a .other .now) (a .out .now) r other out x
+    → Ending (a .bases .now) (a .flags .now) (a .other .now) (a .out .now) r other out (a .reader)
+state e x q r other out m =
+    let a = e .before .before .args in
+    ends-in (a .bases .now) (a .flags .now) (a .other .now) (a .out .now) r other out (a .reader) x q (e .if1 .left) m
 
 enum-told : tie.Need-enum-told
 enum-told c = search needs
@@ -49,8 +63,8 @@ returns-2 c =
     let k = c .before .before in
     let r = k .before .before in
     let e = r .before .before in
-    let a = e .before .before .args in
-    ends-in (a .bases .now) (a .flags .now) (a .other .now) (a .out .now) (k .put-total .result) _ _ (a .reader) Reader.Start (r .enum-told .given .1) (e .if1 .left) (put-place (k .put-total .ensures), (refl, put-onto (k .put-total .ensures) (omega (arith, e .if1 .left, total-length 0))))
+    let p = k .put-total .ensures in
+    state e Reader.Start (r .enum-told .given .1) _ _ _ (put-place p, (refl, put-onto p (omega (arith, e .if1 .left, total-length 0))))
 
 same-length-2 : tie.Need-same-length-2
 same-length-2 c = search needs
@@ -59,9 +73,7 @@ returns-3 : tie.Need-returns-3
 returns-3 c =
     let k = c .before .before in
     let r = k .before .before .before .before in
-    let e = r .before .before in
-    let a = e .before .before .args in
-    ends-in (a .bases .now) (a .flags .now) (a .other .now) (a .out .now) (k .close .result) _ _ (a .reader) (Reader.Header _) (r .reader .given .1) (e .if1 .left) (k .close .ensures)
+    state (r .before .before) (Reader.Header _) (r .reader .given .1) _ _ _ (k .close .ensures)
 
 same-length-3 : tie.Need-same-length-3
 same-length-3 c = search needs
@@ -70,9 +82,7 @@ returns-4 : tie.Need-returns-4
 returns-4 c =
     let k = c .before .before in
     let r = k .before .before .before .before in
-    let e = r .before .before in
-    let a = e .before .before .args in
-    ends-in (a .bases .now) (a .flags .now) (a .other .now) (a .out .now) (k .close2 .result) _ _ (a .reader) (Reader.Fresh _) (r .reader2 .given .1) (e .if1 .left) (k .close2 .ensures)
+    state (r .before .before) (Reader.Fresh _) (r .reader2 .given .1) _ _ _ (k .close2 .ensures)
 
 same-length-4 : tie.Need-same-length-4
 same-length-4 c = search needs
@@ -81,15 +91,10 @@ returns-5 : tie.Need-returns-5
 returns-5 c =
     let k = c .before .before in
     let r = k .before .before .before .before in
-    let e = r .before .before in
-    let a = e .before .before .args in
-    ends-in (a .bases .now) (a .flags .now) (a .other .now) (a .out .now) (k .close3 .result) _ _ (a .reader) (Reader.Within _) (r .reader3 .given .1) (e .if1 .left) (k .close3 .ensures)
+    state (r .before .before) (Reader.Within _) (r .reader3 .given .1) _ _ _ (k .close3 .ensures)
 
 returns-6 : tie.Need-returns-6
-returns-6 c =
-    let e = c .before .before in
-    let a = e .before .before .args in
-    ends-in (a .bases .now) (a .flags .now) (a .other .now) (a .out .now) 0 _ _ (a .reader) Reader.Ended (c .enum-told2 .given .1) (e .if1 .left) (refl, (refl, refl))
+returns-6 c = state (c .before .before) Reader.Ended (c .enum-told2 .given .1) _ _ _ (refl, (refl, refl))
 
 pub finish-spec : {M : Type 1} → statement M
 finish-spec =

@@ -1,11 +1,15 @@
 -- Each state's own function. Assumes nothing.
-use mathlib.Core.Path.{refl}
+use mathlib.Core.List.{List}
+use mathlib.Core.Path.{_≡_, refl}
+use Prim.Native.Nat.{ℕ}
 use native.Mathlib.Omega.{arith}
-use Rattle.fasta.specs.Steps.{inHeader, inLine}
+use Rattle.fasta.specs.Steps.{seen, inHeader, inLine}
 use Rattle.fasta.specs.Buffers.{trackAfter, otherAfter}
+use Rattle.fasta.specs.declared.reader.Reader.{Reader}
 use Rattle.fasta.specs.declared.reader.Reader.the-variants as Reader
+use Rattle.fasta.specs.declared.reader.Stepped.{Stepped}
 use Rattle.fasta.proofs.BoundLaws.{seen-empty, seen-none}
-use Rattle.fasta.proofs.CaseLaws.{in-state, idle}
+use Rattle.fasta.proofs.CaseLaws.{Moving, Seeing, in-state, idle}
 use borrow.Author.Needs.{needs}
 use Rattle.fasta.proofs.reader.step.Statement.{statement}
 use Rattle.fasta.proofs.reader.step.Tie as tie
@@ -19,6 +23,17 @@ returns-2 : tie.Need-returns-2
 returns-2 c =
     let a = c .before .before .before .before .args in
     idle (a .reader) (a .part .now) (a .bases .now) (a .flags .now) (a .other .now) (a .out .now) (seen-none (a .part .now) (a .out .now) (c .if2 .taken))
+
+-- with bytes to read and room to write, it is what is done in its state
+state : (e : tie.Else2) (x : Reader)
+    → let a = e .before .before .before .before .args in
+    a .reader ≡ x
+    → (r : Stepped) (bases flags other out : List ℕ)
+    → Moving (a .part .now) (a .bases .now) (a .flags .now) (a .other .now) (a .out .now) r bases flags other out x
+    → Seeing (a .part .now) (a .bases .now) (a .flags .now) (a .other .now) (a .out .now) r bases flags other out (a .reader) (seen (a .part .now) (a .out .now))
+state e x q r bases flags other out m =
+    let a = e .before .before .before .before .args in
+    in-state (a .part .now) (a .bases .now) (a .flags .now) (a .other .now) (a .out .now) r bases flags other out (a .reader) x q (omega arith) (e .if2 .left) m
 
 enum-told : tie.Need-enum-told
 enum-told c = search needs
@@ -55,17 +70,13 @@ unfolding trackAfter otherAfter
 returns-3 c =
     let b = c .before .before in
     let k = b .before .before in
-    let e = k .before .before in
-    let a = e .before .before .before .before .args in
-    in-state (a .part .now) (a .bases .now) (a .flags .now) (a .other .now) (a .out .now) (b .begin .result) _ _ _ _ (a .reader) Reader.Start (k .enum-told .given .1) (omega arith) (e .if2 .left) (b .begin .ensures .0, (refl, (refl, (refl, b .begin .ensures .1))))
+    state (k .before .before) Reader.Start (k .enum-told .given .1) _ _ _ _ _ (b .begin .ensures .0, (refl, (refl, (refl, b .begin .ensures .1))))
 
 returns-4 : tie.Need-returns-4
 unfolding trackAfter otherAfter inHeader
 returns-4 c =
     let k = c .before .before in
-    let e = k .before .before in
-    let a = e .before .before .before .before .args in
-    in-state (a .part .now) (a .bases .now) (a .flags .now) (a .other .now) (a .out .now) (c .in-header .result) _ _ _ _ (a .reader) (Reader.Header _) (k .reader .given .1) (omega arith) (e .if2 .left) (c .in-header .ensures, (refl, (refl, (refl, refl))))
+    state (k .before .before) (Reader.Header _) (k .reader .given .1) _ _ _ _ _ (c .in-header .ensures, (refl, (refl, (refl, refl))))
 
 same-length-2 : tie.Need-same-length-2
 same-length-2 c = search needs
@@ -74,25 +85,18 @@ returns-5 : tie.Need-returns-5
 returns-5 c =
     let b = c .before .before in
     let k = b .before .before .before .before .before .before in
-    let e = k .before .before in
-    let a = e .before .before .before .before .args in
-    in-state (a .part .now) (a .bases .now) (a .flags .now) (a .other .now) (a .out .now) (b .at-line .result) _ _ _ _ (a .reader) (Reader.Fresh _) (k .reader2 .given .1) (omega arith) (e .if2 .left) (b .at-line .ensures)
+    state (k .before .before) (Reader.Fresh _) (k .reader2 .given .1) _ _ _ _ _ (b .at-line .ensures)
 
 returns-6 : tie.Need-returns-6
 unfolding trackAfter otherAfter inLine
 returns-6 c =
     let k = c .before .before .before .before in
-    let e = k .before .before in
-    let a = e .before .before .before .before .args in
     let p = c .in-line .ensures in
-    in-state (a .part .now) (a .bases .now) (a .flags .now) (a .other .now) (a .out .now) (c .in-line .result) _ _ _ _ (a .reader) (Reader.Within _) (k .reader3 .given .1) (omega arith) (e .if2 .left) (p .0, (p .1 .0, (p .1 .1, (refl, refl))))
+    state (k .before .before) (Reader.Within _) (k .reader3 .given .1) _ _ _ _ _ (p .0, (p .1 .0, (p .1 .1, (refl, refl))))
 
 returns-7 : tie.Need-returns-7
 unfolding trackAfter otherAfter
-returns-7 c =
-    let e = c .before .before in
-    let a = e .before .before .before .before .args in
-    in-state (a .part .now) (a .bases .now) (a .flags .now) (a .other .now) (a .out .now) _ _ _ _ _ (a .reader) Reader.Ended (c .enum-told2 .given .1) (omega arith) (e .if2 .left) (refl, (refl, (refl, (refl, refl))))
+returns-7 c = state (c .before .before) Reader.Ended (c .enum-told2 .given .1) _ _ _ _ _ (refl, (refl, (refl, (refl, refl))))
 
 pub step-spec : {M : Type 1} → statement M
 step-spec =

@@ -2,8 +2,7 @@
 use Prim.Native.Nat.{_+_, _≤_}
 use native.Mathlib.Omega.{arith}
 use lib.ListN.{length}
-use Rattle.codes.specs.Codes.{chars}
-use Rattle.rows.specs.Columns.{setFlags, strandOf}
+use Rattle.fasta.specs.Records.{ambiguousIn, strandIn}
 use Rattle.fasta.specs.Report.{rowOf}
 use Rattle.rows.proofs.DecimalLaws.{decimal-length}
 use Rattle.fasta.proofs.RowLaws.{body-length}
@@ -33,7 +32,8 @@ put-byte-requires-2 c κs =
     let p3 = c .before .before .before in
     let p2 = p3 .before .before .before .before .before in
     let a = p2 .before .before .before .before .before .before .before .args in
-    omega (arith, room-2 p2, put-length (p3 .put-body .ensures .0), p3 .put-body .ensures .0 .behind, body-length (a .kept .count) (setFlags (chars 1 (a .flags .now) 0 (a .kept .count))) (strandOf (chars 2 (a .bases .now) 0 (a .kept .count))))
+    let body = p3 .put-body .ensures .0 in
+    omega (arith, room-2 p2, put-length body, body .behind, body-length (a .kept .count) (ambiguousIn (a .kept) (a .flags .now)) (strandIn (a .kept) (a .bases .now)))
 
 same-length : tie.Need-same-length
 same-length c = search needs

@@ -20,7 +20,9 @@ put-byte-requires : tie.Need-put-byte-requires
 put-byte-requires c κs =
     let p2 = c .before .before .before in
     let p1 = p2 .before .before .before .before in
-    omega (arith, put-length (p1 .put-text .ensures), p1 .put-text .ensures .behind, put-length (p2 .put-decimal .ensures), p2 .put-decimal .ensures .behind, decimal-length 20 (p1 .before .before .before .before .args .number))
+    let text = p1 .put-text .ensures in
+    let digits = p2 .put-decimal .ensures in
+    omega (arith, put-length text, text .behind, put-length digits, digits .behind, decimal-length 20 (p1 .before .before .before .before .args .number))
 
 same-length : tie.Need-same-length
 same-length c = search needs

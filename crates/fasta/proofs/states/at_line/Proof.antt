@@ -23,7 +23,8 @@ returns c =
     let t = w .before in
     let s = t .before .before .before .before in
     let a = s .args in
-    closes (a .kept) (a .part .now) (a .bases .now) (a .flags .now) (a .other .now) (a .out .now) (s .pre .0) (w .wrapping-add-u64 .result) (k .put-row .result) _ _ (t .if1 .taken) (s .pre .1) (w .wrapping-add-u64 .ensures) (k .put-row .ensures .0) (k .put-row .ensures .1)
+    let row = k .put-row .ensures in
+    closes (a .kept) (a .part .now) (a .bases .now) (a .flags .now) (a .other .now) (a .out .now) (s .pre .0) _ _ _ _ (t .if1 .taken) (s .pre .1) (w .wrapping-add-u64 .ensures) (row .0) (row .1)
 
 in-line-requires : tie.Need-in-line-requires
 in-line-requires c κs = search needs

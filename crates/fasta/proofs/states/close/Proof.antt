@@ -1,7 +1,6 @@
 -- Two puts, one after the other. Assumes nothing.
 use native.Mathlib.Omega.{arith}
-use Rattle.codes.specs.Codes.{chars}
-use Rattle.rows.specs.Columns.{setFlags, strandOf}
+use Rattle.fasta.specs.Records.{ambiguousIn, strandIn}
 use Rattle.fasta.proofs.BoundLaws.{closed-length}
 use Rattle.fasta.proofs.CaseLaws.{closed-put}
 use Rattle.fasta.proofs.RowLaws.{row-length}
@@ -23,7 +22,8 @@ put-total-requires c κs =
     let w = p .before .before .before in
     let s = w .before .before in
     let a = s .args in
-    omega (arith, s .pre, put-length (p .put-row .ensures .0), p .put-row .ensures .0 .behind, row-length (w .wrapping-add-u64 .result) (a .kept .count) (setFlags (chars 1 (a .flags .now) 0 (a .kept .count))) (strandOf (chars 2 (a .bases .now) 0 (a .kept .count))))
+    let row = p .put-row .ensures .0 in
+    omega (arith, s .pre, put-length row, row .behind, row-length (w .wrapping-add-u64 .result) (a .kept .count) (ambiguousIn (a .kept) (a .flags .now)) (strandIn (a .kept) (a .bases .now)))
 
 same-length : tie.Need-same-length
 same-length c = search needs
@@ -35,7 +35,7 @@ returns c =
     let w = p .before .before .before in
     let s = w .before .before in
     let a = s .args in
-    let q = closed-put (a .kept) (a .bases .now) (a .flags .now) (a .out .now) (w .wrapping-add-u64 .result) _ _ _ _ (w .wrapping-add-u64 .ensures) (p .put-row .ensures .0) (t .put-total .ensures) in
+    let q = closed-put (a .kept) (a .bases .now) (a .flags .now) (a .out .now) _ _ _ _ _ (w .wrapping-add-u64 .ensures) (p .put-row .ensures .0) (t .put-total .ensures) in
     (put-place q, (p .put-row .ensures .1, put-onto q (omega (arith, s .pre, closed-length (a .kept) (a .bases .now) (a .flags .now)))))
 
 pub close-spec : {M : Type 1} → statement M

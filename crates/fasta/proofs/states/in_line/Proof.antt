@@ -10,6 +10,7 @@ use Rattle.fasta.specs.Steps.{lineEnd, inLine}
 use Rattle.fasta.specs.Buffers.{lineTrack}
 use Rattle.fasta.specs.declared.reader.Record.{Record}
 use Rattle.fasta.specs.declared.reader.Reader.the-variants as Reader
+use Rattle.fasta.specs.declared.reader.Stepped.{Stepped}
 use Rattle.fasta.proofs.LineLaws.{line-end, line-open, line-ends, line-length}
 use borrow.Author.Needs.{needs}
 use Rattle.fasta.proofs.states.in_line.Statement.{statement}
@@ -28,12 +29,14 @@ module _ (c : tie.After-add-letters) where
   longer : c .add-letters .result ≡ lengthened (start .args .kept) (lineEnd (start .args .part .now))
   longer = c .add-letters .ensures .0 ∙ ap (lengthened (start .args .kept)) (line-length (start .args .part .now) _ end)
 
-  tracks : (c .add-letters .last .1 .1 .0 ≡ lineTrack 2 (start .args .kept) (start .args .part .now) (start .args .bases .now)) × (c .add-letters .last .1 .1 .1 .0 ≡ lineTrack 1 (start .args .kept) (start .args .part .now) (start .args .flags .now))
+  tracks : let a = start .args in
+      (c .add-letters .last .1 .1 .0 ≡ lineTrack 2 (a .kept) (a .part .now) (a .bases .now)) × (c .add-letters .last .1 .1 .1 .0 ≡ lineTrack 1 (a .kept) (a .part .now) (a .flags .now))
   unfolding lineTrack
-  tracks = (
-    c .add-letters .ensures .1 .0 ∙ ap (λ (n : ℕ). after 2 (start .args .bases .now) (start .args .kept .count) (pushAscii (take n (start .args .part .now)))) end,
-    c .add-letters .ensures .1 .1 ∙ ap (λ (n : ℕ). after 1 (start .args .flags .now) (start .args .kept .count) (pushAscii (take n (start .args .part .now)))) end,
-  )
+  tracks =
+      let a = start .args in (
+        c .add-letters .ensures .1 .0 ∙ ap (λ (n : ℕ). after 2 (a .bases .now) (a .kept .count) (pushAscii (take n (a .part .now)))) end,
+        c .add-letters .ensures .1 .1 ∙ ap (λ (n : ℕ). after 1 (a .flags .now) (a .kept .count) (pushAscii (take n (a .part .now)))) end,
+      )
 
 line-end-requires : tie.Need-line-end-requires
 line-end-requires c κs = search needs
@@ -49,14 +52,20 @@ add-letters-requires c κs = search needs
 
 returns : tie.Need-returns
 unfolding inLine
-returns c = (rw (line-open (start (c .before) .args .part .now) _ (end (c .before)) (c .if1 .taken)) (ap₂ (λ (k : Record) (n : ℕ). record { reader = Reader.Within k; used = n; wrote = 0 }) (longer (c .before)) (end (c .before))), tracks (c .before))
+returns c =
+    let l = c .before in
+    let e = ap₂ {C = Stepped} (λ (k : Record) (n : ℕ). record { reader = Reader.Within k; used = n; wrote = 0 }) (longer l) (end l) in
+    (rw (line-open (start l .args .part .now) _ (end l) (c .if1 .taken)) e, tracks l)
 
 add-t11 : tie.Need-add-t11
 add-t11 c = omega (arith, end (c .before), line-end (start (c .before) .args .part .now) .inside)
 
 returns-2 : tie.Need-returns-2
 unfolding inLine
-returns-2 c = (rw (line-ends (start (c .before) .args .part .now) _ (end (c .before)) (c .if1 .left)) (ap₂ (λ (k : Record) (n : ℕ). record { reader = Reader.Fresh k; used = n + 1; wrote = 0 }) (longer (c .before)) (end (c .before))), tracks (c .before))
+returns-2 c =
+    let l = c .before in
+    let e = ap₂ {C = Stepped} (λ (k : Record) (n : ℕ). record { reader = Reader.Fresh k; used = n + 1; wrote = 0 }) (longer l) (end l) in
+    (rw (line-ends (start l .args .part .now) _ (end l) (c .if1 .left)) e, tracks l)
 
 pub in-line-spec : {M : Type 1} → statement M
 in-line-spec =

@@ -38,7 +38,8 @@ count-requires : tie.Need-count-requires
 count-requires c κs = search needs
 
 -- the form can be read
-good : (c : tie.After-n) → (let a = c .before .before .before .before .before .before .args in Readable (a .form .now) (length (a .bases .now)) (length (a .flags .now)) (c .n .given .0 .0) (c .n .given .0 .1 .0))
+good : (c : tie.After-n)
+    → (let a = c .before .before .before .before .before .before .args in Readable (a .form .now) (length (a .bases .now)) (length (a .flags .now)) (c .n .given .0 .0) (c .n .given .0 .1 .0))
 good c = readable _ _ _ _ _ (sym (ap checkedSays (c .n .given .1)) ∙ c .before .before .check .ensures)
 
 -- the bytes of its bases

@@ -30,13 +30,17 @@ enum-known-refusal c = search needs
 enum-told : tie.Need-enum-told
 enum-told c = search needs
 
-done : (c : tie.After-enum-told) → outcome (c .before .before .before .before .before .before) ≡ Done
-unfolding writeOutcome
-done c = sym (c .before .before .write-outcome .ensures) ∙ c .enum-told .given .1
+module _ (c : tie.After-enum-told) where
+  abbrev s : tie.Start
+  s = c .before .before .before .before .before .before
 
-right : (c : tie.After-enum-told) → (let a = c .before .before .before .before .before .before .args in Writable (length (a .bases .now)) (a .base-offset .0) (a .base-len .0) (length (a .flags .now)) (a .flag-offset .0) (a .flag-len .0) (length (a .out .now)))
-unfolding writeOutcome
-right c = write-done _ _ _ _ _ _ _ (done c)
+  done : outcome s ≡ Done
+  unfolding writeOutcome
+  done = sym (c .before .before .write-outcome .ensures) ∙ c .enum-told .given .1
+
+  right : let a = s .args in Writable (length (a .bases .now)) (a .base-offset .0) (a .base-len .0) (length (a .flags .now)) (a .flag-offset .0) (a .flag-len .0) (length (a .out .now))
+  unfolding writeOutcome
+  right = write-done _ _ _ _ _ _ _ done
 
 count-requires : tie.Need-count-requires
 count-requires c κs = search needs
@@ -47,9 +51,11 @@ count-requires-2 c κs = search needs
 write-form-requires : tie.Need-write-form-requires
 write-form-requires c κs =
     let d = c .before .before .before in
-    let a = d .before .before .before .before .before .before .args in
+    let a = s d .args in
     let h = right d in
-    (subst (λ (x : ℕ). first (viewTests 2 (length (a .bases .now)) x (a .base-len .0)) ≡ Done) (sym (c .before .before .count .ensures)) (h .base-view), (subst (λ (x : ℕ). first (viewTests 1 (length (a .flags .now)) x (a .base-len .0)) ≡ Done) (sym (c .before .count2 .ensures)) (h .flag-view), (h .few, h .fits)))
+    let bases = subst (λ (x : ℕ). first (viewTests 2 (length (a .bases .now)) x (a .base-len .0)) ≡ Done) (sym (c .before .before .count .ensures)) (h .base-view) in
+    let flags = subst (λ (x : ℕ). first (viewTests 1 (length (a .flags .now)) x (a .base-len .0)) ≡ Done) (sym (c .before .count2 .ensures)) (h .flag-view) in
+    (bases, (flags, (h .few, h .fits)))
 
 form-size-requires : tie.Need-form-size-requires
 form-size-requires c κs = right (c .before .before .before .before .before .before) .few
@@ -61,28 +67,29 @@ refusal c = sym (c .before .before .write-outcome .ensures) ∙ c .refusal .give
 returns : tie.Need-returns
 unfolding writeAnswer writeAfter writeOutcome
 returns c =
-    let s = c .before .before .before in
+    let o = outcome (c .before .before .before .before .before .before .before) in
+    let r = c .before .refusal .given .0 .0 in
     let e = refusal (c .before) in
-    (answer-refused (outcome (s .before .before .before .before)) (c .before .refusal .given .0 .0) _ 0 e, gives-refused (outcome (s .before .before .before .before)) (c .before .refusal .given .0 .0) _ _ e)
+    (answer-refused o r _ 0 e, gives-refused o r _ _ e)
 
 same-length : tie.Need-same-length
 same-length c = search needs
 
-written : (c : tie.After-write-form) → (let s = c .before .before .before .before .before .before .before .before .before .before in c .write-form .last .1 .1 .1 .1 .1 .0 ≡ wrote s (s .args .base-offset .0) (s .args .flag-offset .0) (s .args .flag-len .0))
+written : (c : tie.After-write-form)
+    → (let t = s (c .before .before .before .before) in c .write-form .last .1 .1 .1 .1 .1 .0 ≡ wrote t (t .args .base-offset .0) (t .args .flag-offset .0) (t .args .flag-len .0))
 written c =
     let d = c .before .before .before .before in
-    let s = d .before .before .before .before .before .before in
+    let a = s d .args in
     c .write-form .ensures
-    ∙ ap₂ (λ (x y : ℕ). wrote s x y (s .args .base-len .0)) (c .before .before .before .count .ensures) (c .before .before .count2 .ensures)
-    ∙ ap (wrote s (s .args .base-offset .0) (s .args .flag-offset .0)) (right d .same)
+    ∙ ap₂ (λ (x y : ℕ). wrote (s d) x y (a .base-len .0)) (c .before .before .before .count .ensures) (c .before .before .count2 .ensures)
+    ∙ ap (wrote (s d) (a .base-offset .0) (a .flag-offset .0)) (right d .same)
 
 returns-2 : tie.Need-returns-2
 unfolding writeAnswer writeAfter writeOutcome
 returns-2 c =
     let f = c .before .before .before in
     let d = f .before .before .before .before in
-    let s = d .before .before .before .before .before .before in
-    (answer-done (outcome s) _ _ 0 (done d) (c .form-size .ensures), written f ∙ gives-done (outcome s) _ (s .args .out .now) (done d))
+    (answer-done (outcome (s d)) _ _ 0 (done d) (c .form-size .ensures), written f ∙ gives-done (outcome (s d)) _ (s d .args .out .now) (done d))
 
 pub write-spec : {M : Type 1} → statement M
 write-spec =

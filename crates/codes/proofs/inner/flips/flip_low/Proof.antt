@@ -3,7 +3,7 @@ use mathlib.Core.Path.{ap, _∙_}
 use Prim.Native.Nat.{ℕ, _-_, _*_, _/_, _^_}
 use native.Mathlib.Nat.{mul-pos}
 use native.Mathlib.Omega.{arith}
-use Rattle.codes.proofs.FlipLaws.{flip-low}
+use Rattle.codes.proofs.FlipLaws.{flip-shr}
 use Rattle.codes.proofs.WidthLaws.{width-pos}
 use borrow.Author.Needs.{needs}
 use Rattle.codes.proofs.inner.flips.flip_low.Statement.{statement}
@@ -24,7 +24,7 @@ shr-result c = omega (arith, mul-pos (width-pos (c .before .pre .0)) (c .before 
 returns : tie.Need-returns
 returns c =
     let a = c .before .args in
-    ap (λ (y : ℕ). y / 2 ^ (64 - a .w * a .n)) (c .flip-word .ensures) ∙ flip-low (c .before .pre .0) 8 (a .n) (a .x) (c .before .pre .1 .2)
+    ap (λ (y : ℕ). y / 2 ^ (64 - a .w * a .n)) (c .flip-word .ensures) ∙ flip-shr (c .before .pre .0) 8 (a .n) (a .x) (c .before .pre .1 .2)
 
 pub flip-low-spec : {M : Type 1} → statement M
 flip-low-spec = tie.close (tie.spec flip-word-requires mul-result sub-result shr-result returns)

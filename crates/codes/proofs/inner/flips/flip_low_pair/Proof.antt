@@ -3,7 +3,7 @@ use mathlib.Core.Path.{ap₂, _∙_}
 use Prim.Native.Nat.{ℕ, _+_, _-_, _*_, _/_, _^_}
 use native.Mathlib.Nat.{mul-pos}
 use native.Mathlib.Omega.{arith}
-use Rattle.codes.proofs.FlipLaws.{flip-low-pair}
+use Rattle.codes.proofs.FlipLaws.{flip-shr-pair}
 use Rattle.codes.proofs.WidthLaws.{width-pos}
 use borrow.Author.Needs.{needs}
 use Rattle.codes.proofs.inner.flips.flip_low_pair.Statement.{statement}
@@ -30,7 +30,7 @@ returns c =
     let a = s .args in
     c .shr-pair .ensures
     ∙ ap₂ (λ (p q : ℕ). (p * 2 ^ 64 + q) / 2 ^ (128 - a .w * a .n)) (c .before .flip-word2 .ensures) (c .before .before .flip-word .ensures)
-    ∙ flip-low-pair (s .pre .0) (a .n) (a .low) (a .high) (s .fits .low .fits) (s .pre .1 .2)
+    ∙ flip-shr-pair (s .pre .0) (a .n) (a .low) (a .high) (s .fits .low .fits) (s .pre .1 .2)
 
 pub flip-low-pair-spec : {M : Type 1} → statement M
 flip-low-pair-spec =

@@ -28,8 +28,8 @@ loop-holds c = (omega arith, sym (div-one _), refl, refl)
 cast-c : tie.Need-cast-c Inv-loop μ-loop
 cast-c c = omega arith
 
-letter-of-requires : tie.Need-letter-of-requires Inv-loop μ-loop
-letter-of-requires c κs = search needs
+low-letter-requires : tie.Need-low-letter-requires Inv-loop μ-loop
+low-letter-requires c κs = search needs
 
 slice-write-out : tie.Need-slice-write-out Inv-loop μ-loop
 slice-write-out c = omega arith
@@ -45,7 +45,7 @@ loop-again c =
     let s = c .before in (
       omega arith,
       step s .rest-is,
-      ap (set (s .before .loop .out) (s .before .loop .i)) (c .letter-of .ensures ∙ ap letter (mod-mod (s .before .loop .rest) 4)) ∙ step s .out-is,
+      ap (set (s .before .loop .out) (s .before .loop .i)) (c .low-letter .ensures ∙ ap letter (mod-mod (s .before .loop .rest) 4)) ∙ step s .out-is,
       simp length-set (s .before .loop .inv .3),
     )
 
@@ -60,4 +60,4 @@ returns c =
 
 pub unpack-spec : {M : Type 1} → statement M
 unpack-spec =
-    tie.close (tie.spec Inv-loop μ-loop loop-holds cast-c letter-of-requires slice-write-out add-i loop-less loop-again same-length returns)
+    tie.close (tie.spec Inv-loop μ-loop loop-holds cast-c low-letter-requires slice-write-out add-i loop-less loop-again same-length returns)

@@ -1,22 +1,20 @@
 -- The invariant: zeros up to j, and nothing else changed. Assumes nothing.
-use borrow.Author.Needs.{needs}
+use mathlib.Core.Path.{refl}
+use Prim.Native.Nat.{_-_, _≤_}
 use native.Mathlib.Omega.{arith}
-use mathlib.Core.Path.{_≡_, refl, sym, ap, _∙_, subst}
-use Prim.Native.Nat.{ℕ, _%_, _/_, _^_, _*_, _-_, _+_, _≤_, _<_}
-use lib.ListN.{length, length-set, getD}
-use Rattle.codes.specs.Zeros.{Zeroed}
-use Rattle.codes.proofs.ZeroLaws.{zeroed-none, zeroed-more}
+use Rattle.codes.specs.Made.{Made}
+use Rattle.codes.proofs.MadeLaws.{made-none, made-more, made-to}
 use Rattle.codes.proofs.inner.tracks.zero_run.Statement.{statement}
 use Rattle.codes.proofs.inner.tracks.zero_run.Tie as tie
 
 abbrev Inv-loop : tie.InvT-loop
-Inv-loop buf₀ from to j₀ buf j = (from ≤ j) × (j ≤ to) × Zeroed buf₀ from j buf
+Inv-loop buf₀ from to j₀ buf j = (from ≤ j) × (j ≤ to) × Made (λ j. 0) from j buf₀ buf
 
 abbrev μ-loop : tie.MeasureT-loop
 μ-loop buf₀ from to j₀ buf j = to - j
 
 loop-holds : tie.Need-loop-holds Inv-loop μ-loop
-loop-holds c = (search needs, search needs, zeroed-none _ _)
+loop-holds c = (omega arith, omega arith, made-none (omega arith))
 
 slice-write-buffer : tie.Need-slice-write-buffer Inv-loop μ-loop
 slice-write-buffer c = omega (arith, c .before .loop .inv .2 .long)
@@ -28,16 +26,13 @@ loop-less : tie.Need-loop-less Inv-loop μ-loop
 loop-less c = omega arith
 
 loop-again : tie.Need-loop-again Inv-loop μ-loop
-loop-again c = (omega arith, omega arith, zeroed-more _ _ _ _ (c .before .loop .inv .0) (omega arith) (c .before .loop .inv .2))
+loop-again c = (omega arith, omega arith, made-more (c .before .loop .inv .2) (omega arith) (omega arith) refl)
 
 same-length : tie.Need-same-length Inv-loop μ-loop
 same-length c = c .before .loop .inv .2 .long
 
 returns : tie.Need-returns Inv-loop μ-loop
-returns c =
-    let a = c .before .before .args in
-    let e : c .before .loop .j ≡ a .to = omega arith in
-    subst (λ (x : ℕ). Zeroed (a .buffer .now) (a .from) x (c .before .loop .buffer)) e (c .before .loop .inv .2)
+returns c = made-to (c .before .loop .inv .2) (omega arith)
 
 pub zero-run-spec : {M : Type 1} → statement M
 zero-run-spec =

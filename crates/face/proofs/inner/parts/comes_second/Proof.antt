@@ -18,22 +18,13 @@ enum-told-3 : tie.Need-enum-told-3
 enum-told-3 c = search needs
 
 returns : tie.Need-returns
-returns c =
-    let s = c .before .before in
-    let a = s .before .before .before .args in
-    ap (isSecond (a .w) (a .a .now) (a .ao .0) (a .al .0) (a .b .now) (a .bo .0) (a .bl .0)) (sym (c .enum-told .given .1) ∙ s .order-of .ensures)
+returns c = ap isSecond (sym (c .enum-told .given .1) ∙ c .before .before .order-of .ensures)
 
 returns-2 : tie.Need-returns-2
-returns-2 c =
-    let s = c .before .before in
-    let a = s .before .before .before .args in
-    ap (isSecond (a .w) (a .a .now) (a .ao .0) (a .al .0) (a .b .now) (a .bo .0) (a .bl .0)) (sym (c .enum-told2 .given .1) ∙ s .order-of .ensures)
+returns-2 c = ap isSecond (sym (c .enum-told2 .given .1) ∙ c .before .before .order-of .ensures)
 
 returns-3 : tie.Need-returns-3
-returns-3 c =
-    let s = c .before .before in
-    let a = s .before .before .before .args in
-    ap (isSecond (a .w) (a .a .now) (a .ao .0) (a .al .0) (a .b .now) (a .bo .0) (a .bl .0)) (sym (c .enum-told3 .given .1) ∙ s .order-of .ensures)
+returns-3 c = ap isSecond (sym (c .enum-told3 .given .1) ∙ c .before .before .order-of .ensures)
 
 pub comes-second-spec : {M : Type 1} → statement M
 comes-second-spec =

@@ -3,7 +3,7 @@ use mathlib.Core.Bool.{Bool, true, false}
 use mathlib.Core.Path.{sym, _∙_}
 use Rattle.codes.proofs.OutcomeLaws.{answer-refused}
 use Rattle.order.specs.Order.{pairOutcome}
-use Rattle.given.specs.Face.{Part, none}
+use Rattle.given.specs.Face.{Part, noPart}
 use Rattle.face.specs.Parts.{leastPart}
 use Rattle.face.proofs.PartLaws.{with-second, least-first, least-second}
 use borrow.Author.Needs.{needs}
@@ -57,7 +57,7 @@ returns c =
     let new4 = p .before .new4 .ensures in
     let refused = rw (new, new2, new3, new4) at (sym (p .pair-outcome .ensures) ∙ t .refusal .given .1) in
     with-second false (c .part .ensures)
-    ∙ answer-refused {A = Bool × Part} (pairOutcome (a .w) (a .a .now) (a .ao) (a .al) (a .b .now) (a .bo) (a .bl)) (t .refusal .given .0 .0) _ (false, none) refused
+    ∙ answer-refused {A = Bool × Part} (pairOutcome (a .w) (a .a .now) (a .ao) (a .al) (a .b .now) (a .bo) (a .bl)) (t .refusal .given .0 .0) _ (false, noPart) refused
 
 returns-2 : tie.Need-returns-2
 returns-2 c =

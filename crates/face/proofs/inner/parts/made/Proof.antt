@@ -3,7 +3,7 @@ use mathlib.Core.Path.{ap, _∙_}
 use lib.ListN.{length}
 use Rattle.codes.specs.Refusals.{answer}
 use Rattle.codes.specs.declared.refusals.Outcome.{Outcome}
-use Rattle.given.specs.Face.{Part, none}
+use Rattle.given.specs.Face.{Part, noPart}
 use Rattle.face.specs.Parts.{madePart}
 use borrow.Author.Needs.{needs}
 use Rattle.face.proofs.inner.parts.made.Statement.{statement}
@@ -27,7 +27,7 @@ returns c =
     let s = c .before .before .before .before .before in
     let a = s .before .before .before .before .args in
     let outcome = rw (s .before .before .new .ensures, s .before .new2 .ensures) at (s .view-outcome .ensures) in
-    c .part .ensures ∙ ap (λ (p : Outcome). answer {A = Part} p (0, length (a .bytes .now), a .offset, a .len) none) outcome
+    c .part .ensures ∙ ap (λ (p : Outcome). answer {A = Part} p (0, length (a .bytes .now), a .offset, a .len) noPart) outcome
 
 pub made-spec : {M : Type 1} → statement M
 made-spec =

@@ -7,7 +7,7 @@ use Rattle.codes.specs.Codes.{per}
 use Rattle.codes.specs.Refusals.{answer, first}
 use Rattle.codes.specs.declared.refusals.Outcome.{Outcome}
 use Rattle.fields.specs.Fields.{viewTests, normalPart}
-use Rattle.given.specs.Face.{Part, none}
+use Rattle.given.specs.Face.{Part, noPart}
 use Rattle.face.specs.Parts.{normalisedPart}
 use Rattle.face.proofs.PartLaws.{part-bytes}
 use borrow.Author.Needs.{needs}
@@ -55,8 +55,8 @@ returns c =
     let at = k .before .before .count .ensures ∙ rw new at (k .before .before .before .byte-of .ensures) in
     let within = k .count2 .ensures ∙ rw new at (k .before .within-byte .ensures) in
     c .part .ensures
-    ∙ ap₂ (λ (x y : ℕ). answer {A = Part} (s .before .view-outcome .result) (x, length (s .normal-part .result .now), y, a .len) none) at within
-    ∙ ap₂ (λ (p : Outcome) (bs : List ℕ). answer {A = Part} p (a .offset / per w, length bs, a .offset % per w, a .len) none) outcome bytes
+    ∙ ap₂ (λ (x y : ℕ). answer {A = Part} (s .before .view-outcome .result) (x, length (s .normal-part .result .now), y, a .len) noPart) at within
+    ∙ ap₂ (λ (p : Outcome) (bs : List ℕ). answer {A = Part} p (a .offset / per w, length bs, a .offset % per w, a .len) noPart) outcome bytes
     ∙ part-bytes (first (viewTests w (length (a .bytes .now)) (a .offset) (a .len))) (a .offset / per w) (a .offset % per w) (a .len) (normalPart w (a .bytes .now) (a .offset) (a .len))
 
 pub normalised-spec : {M : Type 1} → statement M

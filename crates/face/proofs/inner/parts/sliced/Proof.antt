@@ -4,7 +4,7 @@ use Prim.Native.Nat.{ℕ, _+_, _-_}
 use lib.ListN.{length}
 use Rattle.codes.specs.Refusals.{answer, first}
 use Rattle.fields.specs.Fields.{sliceTests}
-use Rattle.given.specs.Face.{Part, none}
+use Rattle.given.specs.Face.{Part, noPart}
 use Rattle.face.specs.Parts.{slicedPart}
 use Rattle.face.proofs.PartLaws.{part-numbers}
 use borrow.Author.Needs.{needs}
@@ -40,11 +40,13 @@ unfolding slicedPart
 returns c =
     let k = c .before .before .before .before .before in
     let s = k .before .before in
-    let a = s .before .before .before .before .before .before .args in
-    let numbers = rw (s .before .before .before .before .new .ensures, s .before .before .before .new2 .ensures, s .before .before .new3 .ensures, s .before .new4 .ensures) at (s .slice-numbers .ensures) in
+    let m = s .before .before .before in
+    let a = m .before .before .before .args in
+    let n : ℕ = length (a .bytes .now) in
+    let numbers = rw (m .before .new .ensures, m .new2 .ensures, s .before .before .new3 .ensures, s .before .new4 .ensures) at (s .slice-numbers .ensures) in
     c .part .ensures
-    ∙ ap₂ (λ (o len : ℕ). answer {A = Part} (s .slice-numbers .result .outcome) (0, length (a .bytes .now), o, len) none) (k .before .count .ensures) (k .count2 .ensures)
-    ∙ part-numbers (s .slice-numbers .result) (first (sliceTests (a .w) (length (a .bytes .now)) (a .offset) (a .len) (a .start) (a .end))) (length (a .bytes .now)) (a .offset + a .start) (a .end - a .start) numbers
+    ∙ ap₂ (λ (o len : ℕ). answer {A = Part} (s .slice-numbers .result .outcome) (0, n, o, len) noPart) (k .before .count .ensures) (k .count2 .ensures)
+    ∙ part-numbers (s .slice-numbers .result) (first (sliceTests (a .w) n (a .offset) (a .len) (a .start) (a .end))) n (a .offset + a .start) (a .end - a .start) numbers
 
 pub sliced-spec : {M : Type 1} → statement M
 sliced-spec =

@@ -36,12 +36,14 @@ same-length-3 c = c .before .before .before .before .before .before .before .bef
 
 returns : tie.Need-returns
 returns c =
-    let new = c .before .before .before .before .before .before .before .before .before .before .before .before .before .before .before .before .before .new .ensures in
-    let new2 = c .before .before .before .before .before .before .before .before .before .before .before .before .before .before .before .before .new2 .ensures in
-    let new3 = c .before .before .before .before .before .before .before .before .before .before .before .before .before .before .before .new3 .ensures in
-    let new4 = c .before .before .before .before .before .before .before .before .before .before .before .before .before .before .new4 .ensures in
-    let new5 = c .before .before .before .before .before .before .before .before .before .before .before .before .before .new5 .ensures in
-    let answer = rw (new, new2, new3, new4, new5) at (c .before .before .before .before .before .before .before .before .before .fill-delayed-2 .ensures) in
+    let f = c .before .before .before .before .before .before .before .before .before in
+    let n = f .before .before .before in
+    let new = n .before .before .before .before .before .new .ensures in
+    let new2 = n .before .before .before .before .new2 .ensures in
+    let new3 = n .before .before .before .new3 .ensures in
+    let new4 = n .before .before .new4 .ensures in
+    let new5 = n .before .new5 .ensures in
+    let answer = rw (new, new2, new3, new4, new5) at (f .fill-delayed-2 .ensures) in
     (c .filled .ensures ∙ answer .0, answer .1)
 
 pub fill-delayed-2-spec : {M : Type 1} → statement M

@@ -26,7 +26,7 @@ returns c =
     let new2 = c .before .before .before .before .new2 .ensures in
     let new3 = c .before .before .before .new3 .ensures in
     let answer = rw (new, new2, new3) at (c .before .before .step .ensures) in
-    (c .no .ensures ∙ ap numberOf (answer .0), rw (answer .0) at (answer .1))
+    (c .no .ensures ∙ ap numberOf (answer .0), answer .1)
 
 pub step-spec : {M : Type 1} → statement M
 step-spec =

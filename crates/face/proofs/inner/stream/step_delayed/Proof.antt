@@ -30,7 +30,7 @@ returns c =
     let new3 = c .before .before .before .before .before .new3 .ensures in
     let new4 = c .before .before .before .before .new4 .ensures in
     let answer = rw (new, new2, new3, new4) at (c .before .before .before .step-delayed .ensures) in
-    (c .no .ensures ∙ ap numberOf (answer .0), rw (answer .0) at (answer .1))
+    (c .no .ensures ∙ ap numberOf (answer .0), answer .1)
 
 pub step-delayed-spec : {M : Type 1} → statement M
 step-delayed-spec =

@@ -34,7 +34,7 @@ returns c =
     let new4 = c .before .before .before .before .before .before .new4 .ensures in
     let new5 = c .before .before .before .before .before .new5 .ensures in
     let answer = rw (new, new2, new3, new4, new5) at (c .before .before .before .before .step-delayed-2 .ensures) in
-    (c .no .ensures ∙ ap numberOf (answer .0), rw (answer .0) at (answer .1))
+    (c .no .ensures ∙ ap numberOf (answer .0), answer .1)
 
 pub step-delayed-2-spec : {M : Type 1} → statement M
 step-delayed-2-spec =

@@ -1,12 +1,11 @@
 -- A width of at most 2 is 2 or 1, and each has its call. Assumes nothing.
 use mathlib.Core.List.{List}
-use mathlib.Core.Path.{_≡_, sym, ap, _∙_}
+use mathlib.Core.Path.{_≡_}
 use Prim.Native.Nat.{ℕ}
 use native.Mathlib.Omega.{arith}
 use Rattle.codes.proofs.WidthLaws.{width-pos}
 use Rattle.codes.specs.Refusals.{Answer}
 use Rattle.views.specs.Views.{gotSliced}
-use borrow.Author.Needs.{needs}
 use Rattle.face.proofs.inner.view.sliced_symbol.Statement.{statement}
 use Rattle.face.proofs.inner.view.sliced_symbol.Tie as tie
 

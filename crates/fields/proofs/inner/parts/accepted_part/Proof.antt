@@ -3,7 +3,7 @@ use mathlib.Core.Path.{_≡_, ap, ap₂, _∙_}
 use Prim.Native.Nat.{ℕ, _+_, _/_, _≤_}
 use native.Mathlib.Omega.{arith}
 use lib.ListN.{length}
-use Rattle.codes.specs.Codes.{per, up}
+use Rattle.codes.specs.Codes.{per, up, trailing}
 use Rattle.fields.specs.Spans.{spanOf, part}
 use Rattle.fields.proofs.ViewLaws.{view-accepted, room-sum, room-start, room-end}
 use borrow.Author.Needs.{needs}
@@ -51,10 +51,10 @@ module _ (c : tie.After-count4) where
       ∙ c .before .bytes-for .ensures
       ∙ ap (up (s .args .w)) (c .before .before .new .ensures ∙ ap₂ (λ (x y : ℕ). x + y) (c .before .before .before .before .count2 .ensures) (c .before .before .before .count3 .ensures))
 
-  starts : s .args .offset .0 / per (s .args .w) ≤ up (s .args .w) (s .args .offset .0 + s .args .len .0) + 48
+  starts : s .args .offset .0 / per (s .args .w) ≤ up (s .args .w) (s .args .offset .0 + s .args .len .0) + trailing
   starts = room-start (s .pre .0) (view-accepted (s .args .w) (length (s .args .bytes .now)) (s .args .offset .0) (s .args .len .0) (s .pre .1))
 
-  ends : up (s .args .w) (s .args .offset .0 + s .args .len .0) + 48 ≤ length (s .args .bytes .now)
+  ends : up (s .args .w) (s .args .offset .0 + s .args .len .0) + trailing ≤ length (s .args .bytes .now)
   ends = room-end (s .pre .0) (view-accepted (s .args .w) (length (s .args .bytes .now)) (s .args .offset .0) (s .args .len .0) (s .pre .1))
 
 add-to : tie.Need-add-to
@@ -70,7 +70,7 @@ part-result-end : tie.Need-part-result-end
 part-result-end c = omega (arith, used c, ends c)
 
 returns : tie.Need-returns
-returns c = ap₂ (λ (k e : ℕ). part k (e + 48) (spanOf (s (c .before) .args .bytes))) (from (c .before)) (used (c .before))
+returns c = ap₂ (λ (k e : ℕ). part k (e + trailing) (spanOf (s (c .before) .args .bytes))) (from (c .before)) (used (c .before))
 
 pub accepted-part-spec : {M : Type 1} → statement M
 accepted-part-spec =

@@ -6,7 +6,7 @@ use native.Mathlib.Numerals.{add-one}
 use native.Mathlib.Omega.{arith}
 use borrow.Author.Needs.{needs}
 use Rattle.forms.specs.Answers.{spelledSays}
-use Rattle.forms.specs.Numbers.{led, further, Fits}
+use Rattle.forms.specs.Numbers.{Spelling, led, further, Fits}
 use Rattle.forms.proofs.NumberLaws.{led-last, led-on, further-zero, further-some}
 use Rattle.forms.proofs.inner.numbers.lead.Statement.{statement}
 use Rattle.forms.proofs.inner.numbers.lead.Tie as tie
@@ -26,10 +26,13 @@ enum-known-rest : tie.Need-enum-known-rest
 enum-known-rest c = search needs
 
 -- the byte leads another number, which fits
-small : (c : tie.After-known-told) → (c .before .rest .given .0 .0 < 2 ^ 56) × (c .before .rest .given .0 .1 .0 ≤ 8)
+abbrev behind : tie.After-known-told → Spelling
+behind c = record { value = c .before .rest .given .0 .0; size = c .before .rest .given .0 .1 .0 }
+
+small : (c : tie.After-known-told) → (behind c .value < 2 ^ 56) × (behind c .size ≤ 8)
 small c = subst (Fits 8) (ap spelledSays (c .before .rest .given .1)) (c .before .before .before .before .before .pre)
 
-on : (c : tie.After-known-told) → (let a = c .before .before .before .before .before .args in led (a .byte) (spelledSays (a .rest)) ≡ further (a .byte) (some (record { value = c .before .rest .given .0 .0; size = c .before .rest .given .0 .1 .0 })))
+on : (c : tie.After-known-told) → (let a = c .before .before .before .before .before .args in led (a .byte) (spelledSays (a .rest)) ≡ further (a .byte) (some (behind c)))
 on c =
     let a = c .before .before .before .before .before .args in
     led-on (a .byte) (spelledSays (a .rest)) (omega (arith, c .before .before .before .before .wide .ensures)) ∙ ap (further (a .byte)) (ap spelledSays (c .before .rest .given .1))

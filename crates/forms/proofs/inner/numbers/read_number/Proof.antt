@@ -37,8 +37,10 @@ loop-less c = omega arith
 
 loop-again : tie.Need-loop-again Inv-loop μ-loop
 loop-again c =
-    let l = c .before .before .before .before .loop in
-    (omega arith, c .lead .ensures ∙ ap (led (getD (c .before .before .before .before .before .before .args .bytes .now) (l .i - 1) 0)) (l .inv .1) ∙ sym (spelling-step _ (l .i) (omega arith) (l .inv .0) (omega arith)))
+    let h = c .before .before .before .before in
+    let l = h .loop in
+    let bytes = h .before .before .args .bytes .now in
+    (omega arith, c .lead .ensures ∙ ap (led (getD bytes (l .i - 1) 0)) (l .inv .1) ∙ sym (spelling-step _ (l .i) (omega arith) (l .inv .0) (omega arith)))
 
 loop-less-2 : tie.Need-loop-less-2 Inv-loop μ-loop
 loop-less-2 c = omega arith

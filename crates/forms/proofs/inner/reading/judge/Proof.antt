@@ -7,7 +7,7 @@ use native.Mathlib.Numerals.{add-one}
 use native.Mathlib.Omega.{arith}
 use lib.Dec.{ltb}
 use borrow.Author.Needs.{needs}
-use Rattle.codes.specs.Codes.{up}
+use Rattle.codes.specs.Codes.{up, trailing}
 use Rattle.codes.specs.Refusals.{Test, first, noRoom}
 use Rattle.codes.specs.declared.refusals.Refusal.the-variants.{BadForm, NoRoom}
 use Rattle.codes.proofs.TabLaws.{Below-of}
@@ -48,18 +48,19 @@ start c = c .before .before .before .before .before
 good : (c : tie.After-known-told) → Judged (start c .args .form .now) (read c)
 good c =
     let f = start c .args .form .now in
-    checked-some f (read c) (Below-of 8 f (λ j. omega (arith, c .before .before .before .before .shared-slice-known .given j))) (sym (c .before .before .before .check-form .ensures) ∙ ap spelledSays (c .before .value .given .1))
+    let k = c .before .before .before in
+    checked-some f (read c) (Below-of 8 f (λ j. omega (arith, k .before .shared-slice-known .given j))) (sym (k .check-form .ensures) ∙ ap spelledSays (c .before .value .given .1))
 
 -- the tests of room
-bases : (c : tie.After-bad-store) → noRoom (start (c .before .before) .args .base-room) (up 2 (formLength (start (c .before .before) .args .form .now)) + 48) .0 ≡ c .bad-store .result
+bases : (c : tie.After-bad-store) → (let a = start (c .before .before) .args in noRoom (a .base-room) (up 2 (formLength (a .form .now)) + trailing) .0 ≡ c .bad-store .result)
 bases c =
     let k = c .before .before in
-    ap (λ (n : ℕ). ltb (start k .args .base-room) (up 2 n + 48)) (good k .long ∙ sym (c .before .new .ensures)) ∙ sym (c .bad-store .ensures)
+    ap (λ (n : ℕ). ltb (start k .args .base-room) (up 2 n + trailing)) (good k .long ∙ sym (c .before .new .ensures)) ∙ sym (c .bad-store .ensures)
 
-flags : (c : tie.After-bad-store2) → (let k = c .before .before .before .before .before in noRoom (start k .args .flag-room) (up 1 (formLength (start k .args .form .now)) + 48) .0 ≡ c .bad-store2 .result)
+flags : (c : tie.After-bad-store2) → (let a = start (c .before .before .before .before .before) .args in noRoom (a .flag-room) (up 1 (formLength (a .form .now)) + trailing) .0 ≡ c .bad-store2 .result)
 flags c =
     let k = c .before .before .before .before .before in
-    ap (λ (n : ℕ). ltb (start k .args .flag-room) (up 1 n + 48)) (good k .long ∙ sym (c .before .new2 .ensures)) ∙ sym (c .bad-store2 .ensures)
+    ap (λ (n : ℕ). ltb (start k .args .flag-room) (up 1 n + trailing)) (good k .long ∙ sym (c .before .new2 .ensures)) ∙ sym (c .bad-store2 .ensures)
 
 returns : tie.Need-returns
 returns c =

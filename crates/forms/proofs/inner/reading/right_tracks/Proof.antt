@@ -53,12 +53,17 @@ all : (c : tie.Else1) → (let a = c .before .before .before .before .before .be
 all c = c .if1 .left ∙ omega (arith, bases (c .before), flags (c .before))
 
 -- the base bytes
-part : (c : tie.After-spare-clear) → (let a = c .before .before .before .before .before .before .before .before .before .before .args in c .spare-clear .result ≡ spareClear 2 (a .n) (take (up 2 (a .n)) (drop (a .body) (a .form .now))))
-part c =
-    let d = c .before .before .before in
-    let a = d .before .before .before .before .before .before .before .args in
-    let k : a .body + d .before .before .before .count .result - a .body ≡ up 2 (a .n) = omega (arith, bases d) in
-    c .spare-clear .ensures ∙ ap (λ (m : ℕ). spareClear 2 (a .n) (take m (drop (a .body) (a .form .now)))) k
+module _ (c : tie.After-spare-clear) where
+  abbrev d : tie.After-count2
+  d = c .before .before .before
+
+  abbrev s : tie.Start
+  s = d .before .before .before .before .before .before .before
+
+  part : c .spare-clear .result ≡ spareClear 2 (s .args .n) (take (up 2 (s .args .n)) (drop (s .args .body) (s .args .form .now)))
+  part =
+      let k : s .args .body + d .before .before .before .count .result - s .args .body ≡ up 2 (s .args .n) = omega (arith, bases d) in
+      c .spare-clear .ensures ∙ ap (λ (m : ℕ). spareClear 2 (s .args .n) (take m (drop (s .args .body) (s .args .form .now)))) k
 
 sub-spare-clear : tie.Need-sub-spare-clear
 sub-spare-clear c = search needs
@@ -74,8 +79,8 @@ spare-clear-requires c κs = search needs
 
 returns-2 : tie.Need-returns-2
 returns-2 c =
-    let s = c .before .before .before .before .before .before .before .before .before .before .before in
-    tracks-base (s .args .form .now) (s .args .n) (s .args .body) (all (c .before .before .before)) (sym (part (c .before)) ∙ not-true _ (c .if2 .taken))
+    let a = s (c .before) .args in
+    tracks-base (a .form .now) (a .n) (a .body) (all (c .before .before .before)) (sym (part (c .before)) ∙ not-true _ (c .if2 .taken))
 
 sub-spare-clear-2 : tie.Need-sub-spare-clear-2
 sub-spare-clear-2 c = search needs
@@ -91,12 +96,14 @@ spare-clear-requires-2 c κs = search needs
 
 returns-3 : tie.Need-returns-3
 returns-3 c =
-    let d = c .before .before .before in
-    let a = d .before .before .before .before .before .before .before .before .before .before .args in
-    let k : a .body + d .before .before .before .before .before .before .count .result ≡ a .body + up 2 (a .n) = omega (arith, bases (d .before .before .before)) in
+    let p = c .before .before .before in
+    let a = s p .args in
+    let f = a .form .now in
+    let m = a .body + d p .before .before .before .count .result in
+    let k : m ≡ a .body + up 2 (a .n) = omega (arith, bases (d p)) in
     c .spare-clear2 .ensures
-    ∙ ap (spareClear 1 (a .n)) (take-all _ (drop (a .body + d .before .before .before .before .before .before .count .result) (a .form .now)) (le-of-eq (length-drop _ (a .form .now))) ∙ ap (λ (m : ℕ). drop m (a .form .now)) k)
-    ∙ tracks-flag (a .form .now) (a .n) (a .body) (all (d .before .before)) (sym (part d) ∙ not-false _ (c .before .before .if2 .left))
+    ∙ ap (spareClear 1 (a .n)) (take-all _ (drop m f) (le-of-eq (length-drop _ f)) ∙ ap (λ (i : ℕ). drop i f) k)
+    ∙ tracks-flag f (a .n) (a .body) (all (p .before .before)) (sym (part p) ∙ not-false _ (c .before .before .if2 .left))
 
 pub right-tracks-spec : {M : Type 1} → statement M
 right-tracks-spec =

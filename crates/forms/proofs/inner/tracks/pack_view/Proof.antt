@@ -5,9 +5,10 @@ use native.Mathlib.Omega.{arith}
 use lib.ListN.{length}
 use borrow.Author.Needs.{needs}
 use Rattle.codes.specs.Words.{charsOf}
+use Rattle.codes.proofs.PackedLaws.{up-bits}
 use Rattle.codes.proofs.TabLaws.{Below-of}
 use Rattle.fields.proofs.LoadLaws.{Bits, view-bits}
-use Rattle.forms.proofs.TrackLaws.{Packing, packing-turn, packing-end, up-bits}
+use Rattle.forms.proofs.TrackLaws.{Packing, packing-turn, packing-end}
 use Rattle.forms.proofs.inner.tracks.pack_view.Statement.{statement}
 use Rattle.forms.proofs.inner.tracks.pack_view.Tie as tie
 
@@ -59,8 +60,9 @@ loop-less c = omega arith
 
 loop-again : tie.Need-loop-again Inv-loop μ-loop
 loop-again c =
-    let l = c .before .before .before .before .before .before .loop in
-    packing-turn _ _ _ _ _ (l .i) (l .p) (l .left) (l .out) (l .inv) (c .before .before .before .before .bits-at .result) _ (c .before .before .before .before .before .loop-test .taken) (c .before .before .before .before .bits-at .ensures) (c .before .before .put-bytes .ensures) (search needs)
+    let b = c .before .before .before .before in
+    let l = b .before .before .loop in
+    packing-turn _ _ _ _ _ (l .i) (l .p) (l .left) (l .out) (l .inv) (b .bits-at .result) _ (b .before .loop-test .taken) (b .bits-at .ensures) (c .before .before .put-bytes .ensures) (search needs)
 
 bits-at-requires-2 : tie.Need-bits-at-requires-2 Inv-loop μ-loop
 bits-at-requires-2 c κs =
@@ -82,9 +84,12 @@ same-length c = search needs
 
 returns : tie.Need-returns Inv-loop μ-loop
 returns c =
-    let l = c .before .before .before .before .before .before .loop in
-    let s = c .before .before .before .before .before .before .before .before .before in
-    packing-end _ _ _ _ _ (l .i) (l .p) (l .left) (l .out) (l .inv) (s .pre .0) (Below-of 8 (s .args .bytes .now) (λ j. omega (arith, c .before .before .before .before .before .before .before .before .shared-slice-known .given j))) (c .before .before .before .before .bits-at2 .result) _ _ (c .before .before .before .before .bits-at2 .ensures) refl (c .before .before .put-bytes2 .ensures)
+    let b = c .before .before .before .before in
+    let l = b .before .before .loop in
+    let k = b .before .before .before .before in
+    let s = k .before in
+    let bytes = Below-of 8 (s .args .bytes .now) (λ j. omega (arith, k .shared-slice-known .given j)) in
+    packing-end _ _ _ _ _ (l .i) (l .p) (l .left) (l .out) (l .inv) (s .pre .0) bytes (b .bits-at2 .result) _ _ (b .bits-at2 .ensures) refl (c .before .before .put-bytes2 .ensures)
 
 pub pack-view-spec : {M : Type 1} → statement M
 pack-view-spec =

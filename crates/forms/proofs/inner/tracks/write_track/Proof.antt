@@ -2,7 +2,7 @@
 use borrow.Author.Needs.{needs}
 use Rattle.codes.specs.Codes.{up, chars}
 use Rattle.codes.specs.Words.{packed}
-use Rattle.forms.proofs.WriteLaws.{lent-on}
+use Rattle.codes.proofs.Turns.{lent-on}
 use Rattle.forms.proofs.inner.tracks.write_track.Statement.{statement}
 use Rattle.forms.proofs.inner.tracks.write_track.Tie as tie
 
@@ -23,8 +23,9 @@ same-length c = search needs
 
 returns : tie.Need-returns
 returns c =
-    let a = c .before .before .before .before .before .before .args in
-    lent-on (a .at) (up (a .w) (a .len)) (packed (a .w) (chars (a .w) (a .bytes .now) (a .offset) (a .len))) (a .out .now) (c .before .before .pack-view .last .1 .1 .1 .1 .0) (c .before .before .pack-view .ensures)
+    let p = c .before .before in
+    let a = p .before .before .before .before .args in
+    lent-on (a .at) (up (a .w) (a .len)) (packed (a .w) (chars (a .w) (a .bytes .now) (a .offset) (a .len))) (a .out .now) (p .pack-view .last .1 .1 .1 .1 .0) (p .pack-view .ensures)
 
 pub write-track-spec : {M : Type 1} → statement M
 write-track-spec =

@@ -32,22 +32,33 @@ bytes-as-bases-requires c κs = search needs
 count-requires-2 : tie.Need-count-requires-2
 count-requires-2 c κs = search needs
 
--- where the base bytes begin, and the flag bytes
-base-at : (c : tie.After-count2) → 1 + c .before .before .spelt-size .result ≡ suc (length (spelt 5 (c .before .before .before .count .result)))
-base-at c = let e = c .before .before .spelt-size .ensures in omega arith
+module _ (c : tie.After-count2) where
+  abbrev s : tie.Start
+  s = c .before .before .before .before .before .before .before
 
-bases : (c : tie.After-count2) → c .count2 .result ≡ up 2 (c .before .before .before .count .result)
-bases c = c .count2 .ensures ∙ c .before .bytes-as-bases .ensures ∙ ap (up 2) (sym (c .before .before .before .count .ensures))
+  -- the length, and the bytes of its number
+  abbrev n : ℕ
+  n = c .before .before .before .count .result
 
-flag-at : (c : tie.After-count2) → 1 + c .before .before .spelt-size .result + c .count2 .result ≡ 1 + c .before .before .spelt-size .result + up 2 (c .before .before .before .count .result)
-flag-at c = ap (λ (x : ℕ). 1 + c .before .before .spelt-size .result + x) (bases c)
+  abbrev size : ℕ
+  size = c .before .before .spelt-size .result
 
--- there is room for the form
-room : (c : tie.After-count2) → (let n = c .before .before .before .count .result in formSize n ≤ length (c .before .before .before .before .before .before .before .args .out .now))
-room c = subst (λ (n : ℕ). formSize n ≤ length (c .before .before .before .before .before .before .before .args .out .now)) (sym (c .before .before .before .count .ensures)) (c .before .before .before .before .before .before .before .pre .1 .1 .1)
+  n-is : n ≡ s .args .len .0
+  n-is = c .before .before .before .count .ensures
+
+  -- where the base bytes begin, and the flag bytes
+  base-at : 1 + size ≡ suc (length (spelt 5 n))
+  base-at = let e = c .before .before .spelt-size .ensures in omega arith
+
+  flag-at : 1 + size + c .count2 .result ≡ 1 + size + up 2 n
+  flag-at = ap (λ (x : ℕ). 1 + size + x) (c .count2 .ensures ∙ c .before .bytes-as-bases .ensures ∙ ap (up 2) (sym n-is))
+
+  -- there is room for the form
+  room : formSize n ≤ length (s .args .out .now)
+  room = subst (λ (k : ℕ). formSize k ≤ length (s .args .out .now)) (sym n-is) (s .pre .1 .1 .1)
 
 add-flag-at : tie.Need-add-flag-at
-add-flag-at c = let n = c .before .before .before .count .result in omega (arith, base-at c, flag-at c, length-spelt 5 n, up-le width-2 n)
+add-flag-at c = omega (arith, base-at c, flag-at c, length-spelt 5 (n c), up-le width-2 (n c))
 
 write-head-requires : tie.Need-write-head-requires
 write-head-requires c κs = (omega (arith, c .before .before .before .before .count .ensures), omega (arith, room (c .before)))
@@ -55,26 +66,30 @@ write-head-requires c κs = (omega (arith, c .before .before .before .before .co
 write-track-requires : tie.Need-write-track-requires
 write-track-requires c κs =
     let d = c .before .before .before .before .before in
-    let s = d .before .before .before .before .before .before .before in
-    let l : length (c .before .before .before .write-head .last .1 .0) ≡ length (s .args .out .now) = search needs in
-    (width-2, (subst (λ (x : ℕ). first (viewTests 2 (length (s .args .bases .now)) (s .args .ao) x) ≡ Done) (sym (d .before .before .before .count .ensures)) (s .pre .0), omega (arith, room d, base-at d)))
+    let a = s d .args in
+    let l : length (c .before .before .before .write-head .last .1 .0) ≡ length (a .out .now) = search needs in
+    (width-2, (subst (λ (x : ℕ). first (viewTests 2 (length (a .bases .now)) (a .ao) x) ≡ Done) (sym (n-is d)) (s d .pre .0), omega (arith, room d, base-at d)))
 
 write-track-requires-2 : tie.Need-write-track-requires-2
 write-track-requires-2 c κs =
     let d = c .before .before .before .before .before .before .before .before .before in
-    let s = d .before .before .before .before .before .before .before in
-    let l : length (c .before .before .before .write-track .last .1 .1 .1 .1 .0) ≡ length (s .args .out .now) = search needs in
-    (width-1, (subst (λ (x : ℕ). first (viewTests 1 (length (s .args .flags .now)) (s .args .bo) x) ≡ Done) (sym (d .before .before .before .count .ensures)) (s .pre .1 .0), omega (arith, room d, base-at d, flag-at d)))
+    let a = s d .args in
+    let l : length (c .before .before .before .write-track .last .1 .1 .1 .1 .0) ≡ length (a .out .now) = search needs in
+    (width-1, (subst (λ (x : ℕ). first (viewTests 1 (length (a .flags .now)) (a .bo) x) ≡ Done) (sym (n-is d)) (s d .pre .1 .0), omega (arith, room d, base-at d, flag-at d)))
 
 same-length : tie.Need-same-length
 same-length c = search needs
 
 returns : tie.Need-returns
 returns c =
-    let d = c .before .before .before .before .before .before .before .before .before .before .before .before in
-    let a = d .before .before .before .before .before .before .before .args in
-    form-written (a .bases .now) (a .ao) (a .flags .now) (a .bo) (d .before .before .before .count .result) (a .out .now) _ _ _ _ _ (base-at d) (flag-at d) (c .before .before .before .before .before .before .before .before .before .before .write-head .ensures) (c .before .before .before .before .before .before .write-track .ensures) (c .before .before .write-track2 .ensures)
-    ∙ ap (λ (n : ℕ). stored (chars 2 (a .bases .now) (a .ao) n) (chars 1 (a .flags .now) (a .bo) n) ++ drop (formSize n) (a .out .now)) (d .before .before .before .count .ensures)
+    let two = c .before .before in
+    let one = two .before .before .before .before in
+    let head = one .before .before .before .before in
+    let d = head .before .before in
+    let a = s d .args in
+    form-written (a .bases .now) (a .ao) (a .flags .now) (a .bo) (n d) (a .out .now) _ _ _ _ _ (base-at d) (flag-at d)
+    (head .write-head .ensures) (one .write-track .ensures) (two .write-track2 .ensures)
+    ∙ ap (λ (k : ℕ). stored (chars 2 (a .bases .now) (a .ao) k) (chars 1 (a .flags .now) (a .bo) k) ++ drop (formSize k) (a .out .now)) (n-is d)
 
 pub write-form-spec : {M : Type 1} → statement M
 write-form-spec =

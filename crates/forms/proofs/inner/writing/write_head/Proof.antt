@@ -6,7 +6,8 @@ use native.Mathlib.Omega.{arith}
 use lib.ListN.{length, drop, set}
 use borrow.Author.Needs.{needs}
 use Rattle.forms.specs.Numbers.{spelt}
-use Rattle.forms.proofs.WriteLaws.{lent-on, head-on}
+use Rattle.codes.proofs.Turns.{lent-on}
+use Rattle.forms.proofs.WriteLaws.{head-on}
 use Rattle.forms.proofs.inner.writing.write_head.Statement.{statement}
 use Rattle.forms.proofs.inner.writing.write_head.Tie as tie
 

@@ -7,7 +7,7 @@ use native.Mathlib.Omega.{arith}
 use lib.ListN.{length}
 use borrow.Author.Needs.{needs}
 use borrow.Author.Tests.{ltb-false, lt-ltb, le-ltb}
-use Rattle.codes.specs.Refusals.{Test, first, tooLong, noRoom}
+use Rattle.codes.specs.Refusals.{Test, first, tooLong, badView, noRoom}
 use Rattle.codes.proofs.WidthLaws.{width-1, width-2}
 use Rattle.forms.specs.Forms.{writeTests, badTracks, formSize}
 use Rattle.forms.proofs.OutcomeLaws.{Stops, refusedAt, first-at, tracks-differ, tracks-long, tracks-right}
@@ -47,18 +47,26 @@ returns-3 c =
 bad-view-requires-2 : tie.Need-bad-view-requires-2
 bad-view-requires-2 c κs = (width-1, ltb-false _ _ (passed-2 (c .before .before)))
 
+passed-3 : (c : tie.Else3) → (let a = c .before .before .before .before .before .before .before .before .args in badView 2 (length (a .bases .now)) (a .ao .0) (a .al .0) .0 ≡ false)
+passed-3 c = sym (c .before .bad-view .ensures) ∙ c .if3 .left
+
 returns-4 : tie.Need-returns-4
 returns-4 c =
     let e = c .before .before in
     let d = e .before .before in
-    first-at 3 (tests (d .before .before .before .before .before .before)) (passed-1 (d .before .before), (passed-2 d, (sym (e .before .bad-view .ensures) ∙ e .if3 .left, sym (c .before .bad-view2 .ensures) ∙ c .if4 .taken)))
+    first-at 3 (tests (d .before .before .before .before .before .before)) (passed-1 (d .before .before), (passed-2 d, (passed-3 e, sym (c .before .bad-view2 .ensures) ∙ c .if4 .taken)))
 
--- the four tests of the views do not hold, and the others stop at the k-th
-views-right : (c : tie.Else4) (k : ℕ) → (let s = c .before .before .before .before .before .before .before .before .before .before in Stops k (badTracks (s .args .al .0) (s .args .bl .0) ∷ noRoom (s .args .room) (formSize (s .args .al .0)) ∷ []) → refusedAt (suc (suc (suc (suc k)))) (tests s) ≡ first (tests s))
-views-right c k h =
-    let e = c .before .before in
-    let d = e .before .before in
-    first-at (suc (suc (suc (suc k)))) (tests (d .before .before .before .before .before .before)) (passed-1 (d .before .before), (passed-2 d, (sym (e .before .bad-view .ensures) ∙ e .if3 .left, (sym (c .before .bad-view2 .ensures) ∙ c .if4 .left, h))))
+module _ (c : tie.Else4) where
+  abbrev s : tie.Start
+  s = c .before .before .before .before .before .before .before .before .before .before
+
+  -- the four tests of the views do not hold, and the others stop at the k-th
+  views-right : (k : ℕ) → Stops k (badTracks (s .args .al .0) (s .args .bl .0) ∷ noRoom (s .args .room) (formSize (s .args .al .0)) ∷ [])
+      → refusedAt (suc (suc (suc (suc k)))) (tests s) ≡ first (tests s)
+  views-right k h =
+      let e = c .before .before in
+      let d = e .before .before in
+      first-at (suc (suc (suc (suc k)))) (tests s) (passed-1 (d .before .before), (passed-2 d, (passed-3 e, (sym (c .before .bad-view2 .ensures) ∙ c .if4 .left, h))))
 
 count-requires : tie.Need-count-requires
 count-requires c κs = search needs
@@ -70,7 +78,7 @@ returns-5 : tie.Need-returns-5
 returns-5 c = views-right (c .before .before .before) 0 (tracks-differ _ _ (λ e. c .if5 .taken (c .before .before .count .ensures ∙ e ∙ sym (c .before .count2 .ensures))))
 
 -- both lengths are the same
-same : (c : tie.Else5) → (let a = c .before .before .before .before .before .before .before .before .before .before .before .before .before .args in a .al .0 ≡ a .bl .0)
+same : (c : tie.Else5) → (let a = s (c .before .before .before) .args in a .al .0 ≡ a .bl .0)
 same c = sym (c .before .before .count .ensures) ∙ c .if5 .left ∙ c .before .count2 .ensures
 
 count-requires-3 : tie.Need-count-requires-3
@@ -78,6 +86,10 @@ count-requires-3 c κs = search needs
 
 returns-6 : tie.Need-returns-6
 returns-6 c = views-right (c .before .before .before .before .before) 0 (tracks-long _ _ (same (c .before .before)) (omega (arith, c .before .count3 .ensures)))
+
+-- and at most 2^29
+tracks : (c : tie.Else6) → (let a = s (c .before .before .before .before .before) .args in badTracks (a .al .0) (a .bl .0) .0 ≡ false)
+tracks c = tracks-right _ _ (same (c .before .before)) (omega (arith, c .before .count3 .ensures))
 
 form-size-requires : tie.Need-form-size-requires
 form-size-requires c κs = search needs
@@ -88,12 +100,16 @@ count-requires-4 c κs = search needs
 returns-7 : tie.Need-returns-7
 returns-7 c =
     let d = c .before .before .before in
-    views-right (d .before .before .before .before .before) 1 (tracks-right _ _ (same (d .before .before)) (omega (arith, d .before .count3 .ensures)), let a = d .before .before .before .before .before .before .before .before .before .before .before .before .before .before .before .args in lt-ltb (a .room) (formSize (a .al .0)) (omega (arith, c .before .count4 .ensures, c .before .before .form-size .ensures)))
+    let v = d .before .before .before .before .before in
+    let a = s v .args in
+    views-right v 1 (tracks d, lt-ltb (a .room) (formSize (a .al .0)) (omega (arith, c .before .count4 .ensures, c .before .before .form-size .ensures)))
 
 returns-8 : tie.Need-returns-8
 returns-8 c =
     let d = c .before .before .before in
-    views-right (d .before .before .before .before .before) 2 (tracks-right _ _ (same (d .before .before)) (omega (arith, d .before .count3 .ensures)), (let a = d .before .before .before .before .before .before .before .before .before .before .before .before .before .before .before .args in le-ltb (a .room) (formSize (a .al .0)) (omega (arith, c .before .count4 .ensures, c .before .before .form-size .ensures)), tt))
+    let v = d .before .before .before .before .before in
+    let a = s v .args in
+    views-right v 2 (tracks d, (le-ltb (a .room) (formSize (a .al .0)) (omega (arith, c .before .count4 .ensures, c .before .before .form-size .ensures)), tt))
 
 pub write-outcome-spec : {M : Type 1} → statement M
 write-outcome-spec =

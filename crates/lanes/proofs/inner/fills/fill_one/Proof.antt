@@ -28,18 +28,21 @@ count-requires-3 c κs = search needs
 
 fill-lanes-requires : tie.Need-fill-lanes-requires
 fill-lanes-requires c κs =
-    let s = c .before .before .before .before .before .before .before in
+    let o = c .before .before .before in
+    let s = o .before .before .before .before in
     let z = sized s in
-    let p = c .before .before .before .before .plan-of .ensures in
-    (s .pre .0, (rw (c .before .before .before .count .ensures, c .before .before .count2 .ensures) (opened s .view), (omega (arith, z .lane-few, p .lane), omega (arith, z .steps-few, p .steps), omega (arith, s .pre .1 .1, p .steps))))
+    let p = o .before .plan-of .ensures in
+    (s .pre .0, (rw (o .count .ensures, c .before .before .count2 .ensures) (opened s .view), (omega arith, omega arith, omega (arith, s .pre .1 .1))))
 
 same-length : tie.Need-same-length
 same-length c = search needs
 
 returns : tie.Need-returns
 returns c =
-    let p = c .before .before .before .before .before .before .before .plan-of .ensures in
-    c .before .before .fill-lanes .ensures ∙ rw (c .before .before .before .before .before .before .count .ensures, c .before .before .before .before .before .count2 .ensures, c .before .before .before .before .count3 .ensures, p .lane, p .steps)
+    let e = c .before .before .before .before in
+    let o = e .before .before in
+    let p = o .before .plan-of .ensures in
+    c .before .before .fill-lanes .ensures ∙ rw (o .count .ensures, e .before .count2 .ensures, e .count3 .ensures, p .lane, p .steps)
 
 pub fill-one-spec : {M : Type 1} → statement M
 fill-one-spec =

@@ -1,21 +1,20 @@
 -- The invariant: zeros up to q, and nothing else changed. Assumes nothing.
-use mathlib.Core.Path.{_≡_, refl, subst}
-use Prim.Native.Nat.{ℕ, _-_, _≤_}
+use mathlib.Core.Path.{refl}
+use Prim.Native.Nat.{_-_, _≤_}
 use native.Mathlib.Omega.{arith}
-use Rattle.lanes.specs.Written.{Written}
-use Rattle.lanes.proofs.WriteLaws.{written-none, written-more}
-use borrow.Author.Needs.{needs}
+use Rattle.codes.specs.Made.{Made}
+use Rattle.codes.proofs.MadeLaws.{made-none, made-more, made-to}
 use Rattle.lanes.proofs.inner.fills.zero_entries.Statement.{statement}
 use Rattle.lanes.proofs.inner.fills.zero_entries.Tie as tie
 
 abbrev Inv-loop : tie.InvT-loop
-Inv-loop out₀ to q₀ out q = (q ≤ to) × Written (λ _. 0) 0 q out₀ out
+Inv-loop out₀ to q₀ out q = (q ≤ to) × Made (λ j. 0) 0 q out₀ out
 
 abbrev μ-loop : tie.MeasureT-loop
 μ-loop out₀ to q₀ out q = to - q
 
 loop-holds : tie.Need-loop-holds Inv-loop μ-loop
-loop-holds c = (search needs, written-none _ 0 0 _ (search needs))
+loop-holds c = (omega arith, made-none (omega arith))
 
 mul-out : tie.Need-mul-out Inv-loop μ-loop
 mul-out c = omega arith
@@ -30,16 +29,13 @@ loop-less : tie.Need-loop-less Inv-loop μ-loop
 loop-less c = omega arith
 
 loop-again : tie.Need-loop-again Inv-loop μ-loop
-loop-again c = (omega arith, written-more _ 0 _ _ _ _ (search needs) (omega arith) refl (c .before .loop .inv .1))
+loop-again c = (omega arith, made-more (c .before .loop .inv .1) (omega arith) (omega arith) refl)
 
 same-length : tie.Need-same-length Inv-loop μ-loop
 same-length c = c .before .loop .inv .1 .long
 
 returns : tie.Need-returns Inv-loop μ-loop
-returns c =
-    let a = c .before .before .args in
-    let e : c .before .loop .q ≡ a .to = omega arith in
-    subst (λ (x : ℕ). Written (λ _. 0) 0 x (a .out .now) (c .before .loop .out)) e (c .before .loop .inv .1)
+returns c = made-to (c .before .loop .inv .1) (omega arith)
 
 pub zero-entries-spec : {M : Type 1} → statement M
 zero-entries-spec =

@@ -20,7 +20,9 @@ returns-2 c = let a = c .before .before .before .before .args in simp (le-ltb (2
 
 returns-3 : tie.Need-returns-3
 returns-3 c =
-    let a = c .before .before .before .before .args in rw (c .before .before .before .count .ensures, c .before .before .count2 .ensures) (simp (le-ltb (2 ^ 31) (a .first .0) (omega arith), le-ltb (2 ^ 31) (a .second .0) (omega arith)))
+    let k = c .before .before in
+    let a = k .before .before .args in
+    rw (k .before .count .ensures, k .count2 .ensures) (simp (le-ltb (2 ^ 31) (a .first .0) (omega arith), le-ltb (2 ^ 31) (a .second .0) (omega arith)))
 
 pub bad-delays-spec : {M : Type 1} → statement M
 bad-delays-spec = tie.close (tie.spec count-requires count-requires-2 returns returns-2 returns-3)

@@ -34,7 +34,10 @@ module _ (c : tie.After-lane-of) where
   abbrev s : tie.Start
   s = c .before .before .before .before
 
-  starts-is : c .before .before .before .starts-of .result ≡ starts (s .args .len) (s .args .context)
+  abbrev many : ℕ
+  many = c .before .before .before .starts-of .result
+
+  starts-is : many ≡ starts (s .args .len) (s .args .context)
   starts-is = c .before .before .before .starts-of .ensures
 
   lane-is : c .lane-of .result ≡ lane (s .args .w) (s .args .len) (s .args .context) (s .args .factor)
@@ -44,7 +47,7 @@ module _ (c : tie.After-lane-of) where
   right : Shaped (s .args .w) (s .args .len) (s .args .context) (s .args .factor)
   right = shaped-is (s .pre .0) (s .args .len) (s .args .context) (s .args .factor) (s .pre .1)
 
-  padded : 8 * (c .lane-of .result - c .before .before .before .starts-of .result / 8) - c .before .before .before .starts-of .result % 8 ≡ padding (s .args .w) (s .args .len) (s .args .context) (s .args .factor)
+  padded : 8 * (c .lane-of .result - many / 8) - many % 8 ≡ padding (s .args .w) (s .args .len) (s .args .context) (s .args .factor)
   padded = ap₂ (λ (n m : ℕ). 8 * (n - m / 8) - m % 8) lane-is starts-is ∙ padding-is (s .args .w) (s .args .len) (s .args .context) (s .args .factor) right
 
 sub-behind : tie.Need-sub-behind
@@ -57,7 +60,10 @@ sub-behind-2 : tie.Need-sub-behind-2
 sub-behind-2 c = omega (arith, right c, lane-is c, starts-is c)
 
 returns : tie.Need-returns
-returns c = let a = s (c .before) .args in record { lane = lane-is (c .before); padding = padded (c .before); steps = steps-none (a .w) (a .len) (a .context) (a .factor) (c .if1 .taken) }
+returns c =
+    let k = c .before in
+    let a = s k .args in
+    record { lane = lane-is k; padding = padded k; steps = steps-none (a .w) (a .len) (a .context) (a .factor) (c .if1 .taken) }
 
 sub-t8 : tie.Need-sub-t8
 sub-t8 c = omega (arith, right (c .before))
@@ -67,8 +73,10 @@ add-t10 c = omega (arith, right (c .before), lane-is (c .before))
 
 returns-2 : tie.Need-returns-2
 returns-2 c =
-    let a = s (c .before) .args in
-    record { lane = lane-is (c .before); padding = padded (c .before); steps = ap (λ (n : ℕ). n + (a .context - 1)) (lane-is (c .before)) ∙ steps-some (a .w) (a .len) (a .context) (a .factor) (right (c .before) .low) (omega arith) }
+    let k = c .before in
+    let a = s k .args in
+    let e = steps-some (a .w) (a .len) (a .context) (a .factor) (right k .low) (omega arith) in
+    record { lane = lane-is k; padding = padded k; steps = ap (λ (n : ℕ). n + (a .context - 1)) (lane-is k) ∙ e }
 
 pub numbers-of-spec : {M : Type 1} → statement M
 numbers-of-spec =

@@ -8,7 +8,7 @@ use Rattle.codes.specs.Codes.{chars}
 use Rattle.codes.proofs.TabLaws.{Below-of}
 use Rattle.codes.proofs.WordLaws.{Below}
 use Rattle.fields.proofs.LoadLaws.{Bits, view-bits, view-word}
-use Rattle.lanes.specs.Written.{Holds}
+use Rattle.lanes.specs.Turns.{Holds}
 use Rattle.lanes.proofs.TurnLaws.{holds-none, holds-last, holds-turn}
 use borrow.Author.Needs.{needs}
 use Rattle.lanes.proofs.inner.turns.lane_word.Statement.{statement}
@@ -17,8 +17,16 @@ use Rattle.lanes.proofs.inner.turns.lane_word.Tie as tie
 bytes : (c : tie.After-shared-slice-known) → Below 8 (c .before .args .bytes .now)
 bytes c = Below-of 8 (c .before .args .bytes .now) (λ i. omega (arith, c .shared-slice-known .given i))
 
-bits : (c : tie.Start) → Bits (c .args .w) (length (c .args .bytes .now)) (c .args .offset) (c .args .len)
-bits c = view-bits (c .pre .0) (length (c .args .bytes .now)) (c .args .offset) (c .args .len) (c .pre .1 .0)
+module _ (s : tie.Start) where
+  bits : Bits (s .args .w) (length (s .args .bytes .now)) (s .args .offset) (s .args .len)
+  bits = view-bits (s .pre .0) (length (s .args .bytes .now)) (s .args .offset) (s .args .len) (s .pre .1 .0)
+
+  -- where the first bit stands
+  abbrev at : ℕ
+  at = s .args .w * (s .args .offset + s .args .i)
+
+  place : s .args .i < s .args .len → (at / 8 + 40 ≤ length (s .args .bytes .now)) × (at < 2 ^ 31)
+  place h = view-word (s .args .w) (length (s .args .bytes .now)) (s .args .offset) (s .args .len) (s .args .i) at bits (le-of-lt h) refl
 
 returns : tie.Need-returns
 returns c =
@@ -27,30 +35,23 @@ returns c =
 sub-left : tie.Need-sub-left
 sub-left c = search needs
 
-module _ (c : tie.Then2) where
-  place : (c .before .before .before .args .w * (c .before .before .before .args .offset + c .before .before .before .args .i) / 8 + 40 ≤ length (c .before .before .before .args .bytes .now)) × (c .before .before .before .args .w * (c .before .before .before .args .offset + c .before .before .before .args .i) < 2 ^ 31)
-  place =
-      let s = c .before .before .before in
-      let a = s .args in
-      view-word (a .w) (length (a .bytes .now)) (a .offset) (a .len) (a .i) _ (bits s) (le-of-lt (c .before .if1 .left)) refl
-
-  fits : c .before .before .before .args .w * (c .before .before .before .args .len - c .before .before .before .args .i) ≤ 64
-  fits =
-      let s = c .before .before .before in
-      let a = s .args in
-      le-trans (mul-le-mul-left (a .w) (subst (λ (x : ℕ). a .len - a .i ≤ x) (s .pre .1 .1) (le-of-lt (c .if2 .taken)))) (mul-div-le 64 (a .w))
+fits : (c : tie.Then2) → c .before .before .before .args .w * (c .before .before .before .args .len - c .before .before .before .args .i) ≤ 64
+fits c =
+    let s = c .before .before .before in
+    let a = s .args in
+    le-trans (mul-le-mul-left (a .w) (subst (λ (x : ℕ). a .len - a .i ≤ x) (s .pre .1 .1) (le-of-lt (c .if2 .taken)))) (mul-div-le 64 (a .w))
 
 add-bits-at : tie.Need-add-bits-at
 add-bits-at c = omega (arith, bits (c .before .before .before) .short)
 
 mul-bits-at : tie.Need-mul-bits-at
-mul-bits-at c = omega (arith, place c .1)
+mul-bits-at c = omega (arith, place (c .before .before .before) (c .before .if1 .left) .1)
 
 mul-bits-at-2 : tie.Need-mul-bits-at-2
 mul-bits-at-2 c = omega (arith, fits c)
 
 bits-at-requires : tie.Need-bits-at-requires
-bits-at-requires c κs = (fits c, omega (arith, place c .0))
+bits-at-requires c κs = (fits c, omega (arith, place (c .before .before .before) (c .before .if1 .left) .0))
 
 returns-2 : tie.Need-returns-2
 returns-2 c =
@@ -59,21 +60,14 @@ returns-2 c =
     let h = holds-last (s .pre .0) (a .bytes .now) (bytes (c .before .before .before)) (a .offset) (a .len) (a .i) (a .len - a .i) (omega arith) in
     subst (Holds (a .w) (chars (a .w) (a .bytes .now) (a .offset) (a .len)) (a .i)) (sym (c .bits-at .ensures)) h
 
-module _ (c : tie.Else2) where
-  place-2 : (c .before .before .before .args .w * (c .before .before .before .args .offset + c .before .before .before .args .i) / 8 + 40 ≤ length (c .before .before .before .args .bytes .now)) × (c .before .before .before .args .w * (c .before .before .before .args .offset + c .before .before .before .args .i) < 2 ^ 31)
-  place-2 =
-      let s = c .before .before .before in
-      let a = s .args in
-      view-word (a .w) (length (a .bytes .now)) (a .offset) (a .len) (a .i) _ (bits s) (le-of-lt (c .before .if1 .left)) refl
-
 add-bits-at-2 : tie.Need-add-bits-at-2
 add-bits-at-2 c = omega (arith, bits (c .before .before .before) .short)
 
 mul-bits-at-3 : tie.Need-mul-bits-at-3
-mul-bits-at-3 c = omega (arith, place-2 c .1)
+mul-bits-at-3 c = omega (arith, place (c .before .before .before) (c .before .if1 .left) .1)
 
 bits-at-requires-2 : tie.Need-bits-at-requires-2
-bits-at-requires-2 c κs = (le-refl 64, omega (arith, place-2 c .0))
+bits-at-requires-2 c κs = (le-refl 64, omega (arith, place (c .before .before .before) (c .before .if1 .left) .0))
 
 returns-3 : tie.Need-returns-3
 returns-3 c =

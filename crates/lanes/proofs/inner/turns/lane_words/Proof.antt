@@ -1,25 +1,23 @@
 -- The invariant: each word below l holds its lane's characters. Assumes nothing.
-use mathlib.Core.Path.{_≡_, refl}
+use mathlib.Core.Path.{_≡_, refl, _∙_}
 use Prim.Native.Nat.{ℕ, _+_, _-_, _*_, _≤_, _<_}
 use native.Mathlib.Omega.{arith}
 use lib.ListN.{length, getD, length-set}
-use mathlib.Core.Path.{_∙_}
 use Rattle.codes.specs.Codes.{chars}
-use Rattle.lanes.specs.Written.{Holds}
+use Rattle.codes.proofs.MadeLaws.{each-more}
+use Rattle.lanes.specs.Turns.{Holds}
 use Rattle.lanes.proofs.LaneLaws.{lane-place}
-use Rattle.lanes.proofs.WriteLaws.{each-more}
-use borrow.Author.Needs.{needs}
 use Rattle.lanes.proofs.inner.turns.lane_words.Statement.{statement}
 use Rattle.lanes.proofs.inner.turns.lane_words.Tie as tie
 
 abbrev Inv-loop : tie.InvT-loop
-Inv-loop w turn bytes offset len n i out₀ l₀ out l = (l ≤ 8) × (length out ≡ 8) × ((m : ℕ) → m < l → Holds w (chars w bytes offset len) (m * n + i) (getD out m 0))
+Inv-loop w turn bytes offset len n i out₀ l₀ out l = (l ≤ 8) × (length out ≡ 8) × ((m : ℕ) → 0 ≤ m → m < l → Holds w (chars w bytes offset len) (m * n + i) (getD out m 0))
 
 abbrev μ-loop : tie.MeasureT-loop
 μ-loop w turn bytes offset len n i out₀ l₀ out l = 8 - l
 
 loop-holds : tie.Need-loop-holds Inv-loop μ-loop
-loop-holds c = (search needs, refl, λ m h. absurd (omega arith))
+loop-holds c = (omega arith, refl, λ m g h. absurd (omega arith))
 
 mul-lane-word : tie.Need-mul-lane-word Inv-loop μ-loop
 mul-lane-word c =
@@ -46,12 +44,14 @@ loop-less c = omega arith
 
 loop-again : tie.Need-loop-again Inv-loop μ-loop
 loop-again c =
-    let s = c .before .before in
-    let a = s .before .before .args in
-    (omega arith, length-set (s .loop .out) (s .loop .l) (c .lane-word .result) ∙ s .loop .inv .1, each-more (λ (m x : ℕ). Holds (a .w) (chars (a .w) (a .bytes .now) (a .offset) (a .len)) (m * a .n + a .i) x) (s .loop .l) (c .lane-word .result) (s .loop .out) (omega (arith, s .loop .inv .1)) (s .loop .inv .2) (c .lane-word .ensures))
+    let l = c .before .before .loop in
+    let a = c .before .before .before .before .args in
+    let x = c .lane-word .result in
+    let holds : ℕ → ℕ → Type 0 = λ m x. Holds (a .w) (chars (a .w) (a .bytes .now) (a .offset) (a .len)) (m * a .n + a .i) x in
+    (omega arith, length-set (l .out) (l .l) x ∙ l .inv .1, each-more holds 0 (l .l) x (l .out) (omega (arith, l .inv .1)) (l .inv .2) (c .lane-word .ensures))
 
 returns : tie.Need-returns Inv-loop μ-loop
-returns c = λ l h. c .before .loop .inv .2 l (omega arith)
+returns c = λ l h. c .before .loop .inv .2 l (omega arith) (omega arith)
 
 pub lane-words-spec : {M : Type 1} → statement M
 lane-words-spec =

@@ -1,24 +1,23 @@
 -- The invariant: the lanes below l are written. Assumes nothing.
-use mathlib.Core.Path.{_≡_, sym, ap, _∙_, subst}
+use mathlib.Core.Path.{sym, ap, _∙_}
 use Prim.Native.Nat.{ℕ, _+_, _-_, _/_, _%_, _^_, _≤_}
-use native.Mathlib.Nat.{add-assoc, add-sub-cancel-left}
+use native.Mathlib.Nat.{add-sub-cancel-left}
 use native.Mathlib.Omega.{arith}
-use lib.ListN.{getD, set}
-use borrow.Author.Needs.{needs}
-use Rattle.lanes.specs.Written.{Written}
+use lib.ListN.{getD}
+use Rattle.codes.specs.Made.{Made}
+use Rattle.codes.proofs.MadeLaws.{made-none, made-more, made-to}
 use Rattle.lanes.proofs.LaneLaws.{field-small}
-use Rattle.lanes.proofs.WriteLaws.{written-none, written-more}
 use Rattle.lanes.proofs.inner.turns.write_step.Statement.{statement}
 use Rattle.lanes.proofs.inner.turns.write_step.Tie as tie
 
 abbrev Inv-loop : tie.InvT-loop
-Inv-loop w s out₀ e words l₀ out l = (l ≤ 8) × Written (λ q. getD words (q - e) 0 / 2 ^ s % 2 ^ w) e (e + l) out₀ out
+Inv-loop w s out₀ e words l₀ out l = (l ≤ 8) × Made (λ q. getD words (q - e) 0 / 2 ^ s % 2 ^ w) e (e + l) out₀ out
 
 abbrev μ-loop : tie.MeasureT-loop
 μ-loop w s out₀ e words l₀ out l = 8 - l
 
 loop-holds : tie.Need-loop-holds Inv-loop μ-loop
-loop-holds c = (search needs, written-none _ _ _ _ (omega arith))
+loop-holds c = (omega arith, made-none (omega arith))
 
 mul-low-bits : tie.Need-mul-low-bits Inv-loop μ-loop
 mul-low-bits c = omega arith
@@ -52,20 +51,16 @@ loop-less c = omega arith
 
 loop-again : tie.Need-loop-again Inv-loop μ-loop
 loop-again c =
-    let o = c .before .before .before in
-    let a = o .before .before .args in
-    let l = o .loop .l in
-    let v = c .narrow .ensures ∙ c .before .low-bits .ensures ∙ ap (λ (m : ℕ). getD (a .t2) m 0 / 2 ^ a .s % 2 ^ a .w) (sym (add-sub-cancel-left (a .e) l)) in
-    (omega arith, subst (λ (b : ℕ). Written (λ (q : ℕ). getD (a .t2) (q - a .e) 0 / 2 ^ a .s % 2 ^ a .w) (a .e) b (a .out .now) (set (o .loop .out) (a .e + l) (c .narrow .result))) (add-assoc (a .e) l 1) (written-more (λ (q : ℕ). getD (a .t2) (q - a .e) 0 / 2 ^ a .s % 2 ^ a .w) (a .e) (a .e + l) (c .narrow .result) (a .out .now) (o .loop .out) (omega arith) (omega arith) v (o .loop .inv .1)))
+    let l = c .before .before .before .loop in
+    let a = c .before .before .before .before .before .args in
+    let v = c .narrow .ensures ∙ c .before .low-bits .ensures ∙ ap (λ (m : ℕ). getD (a .t2) m 0 / 2 ^ a .s % 2 ^ a .w) (sym (add-sub-cancel-left (a .e) (l .l))) in
+    (omega arith, made-to (made-more (l .inv .1) (omega arith) (omega arith) v) (omega arith))
 
 same-length : tie.Need-same-length Inv-loop μ-loop
 same-length c = c .before .loop .inv .1 .long
 
 returns : tie.Need-returns Inv-loop μ-loop
-returns c =
-    let a = c .before .before .before .args in
-    let e : c .before .loop .l ≡ 8 = omega arith in
-    subst (λ (k : ℕ). Written (λ (q : ℕ). getD (a .t2) (q - a .e) 0 / 2 ^ a .s % 2 ^ a .w) (a .e) (a .e + k) (a .out .now) (c .before .loop .out)) e (c .before .loop .inv .1)
+returns c = made-to (c .before .loop .inv .1) (omega arith)
 
 pub write-step-spec : {M : Type 1} → statement M
 write-step-spec =

@@ -1,23 +1,21 @@
 -- The invariant: the steps below t are written. Assumes nothing.
-use mathlib.Core.Path.{_≡_, subst}
-use Prim.Native.Nat.{ℕ, _+_, _-_, _*_, _≤_}
+use Prim.Native.Nat.{_+_, _-_, _*_, _≤_}
 use native.Mathlib.Omega.{arith}
-use Rattle.lanes.specs.Written.{Written, turned}
+use Rattle.codes.specs.Made.{Made}
+use Rattle.codes.proofs.MadeLaws.{made-none, made-to}
+use Rattle.lanes.specs.Turns.{turned}
 use Rattle.lanes.proofs.TurnLaws.{turn-shift, turned-more}
-use Rattle.lanes.proofs.WriteLaws.{written-none}
-use borrow.Author.Needs.{needs}
-use borrow.Author.Needs.{needs}
 use Rattle.lanes.proofs.inner.turns.write_turn.Statement.{statement}
 use Rattle.lanes.proofs.inner.turns.write_turn.Tie as tie
 
 abbrev Inv-loop : tie.InvT-loop
-Inv-loop w words count out₀ e t₀ out t = (t ≤ count) × Written (turned w words e) e (e + 8 * t) out₀ out
+Inv-loop w words count out₀ e t₀ out t = (t ≤ count) × Made (turned w words e) e (e + 8 * t) out₀ out
 
 abbrev μ-loop : tie.MeasureT-loop
 μ-loop w words count out₀ e t₀ out t = count - t
 
 loop-holds : tie.Need-loop-holds Inv-loop μ-loop
-loop-holds c = (search needs, written-none _ _ _ _ (omega arith))
+loop-holds c = (omega arith, made-none (omega arith))
 
 mul-write-step : tie.Need-mul-write-step Inv-loop μ-loop
 mul-write-step c = let s = c .before .before .before in omega (arith, turn-shift (s .pre .0) (c .before .loop .t) (s .args .count) (omega arith) (s .pre .1 .0))
@@ -30,7 +28,9 @@ add-write-step c = omega arith
 
 write-step-requires : tie.Need-write-step-requires Inv-loop μ-loop
 write-step-requires c κs =
-    let s = c .before .before .before .before in (s .pre .0, (turn-shift (s .pre .0) (c .before .before .loop .t) (s .args .count) (omega arith) (s .pre .1 .0), omega (arith, c .before .before .loop .inv .1 .long)))
+    let s = c .before .before .before .before in
+    let l = c .before .before .loop in
+    (s .pre .0, (turn-shift (s .pre .0) (l .t) (s .args .count) (omega arith) (s .pre .1 .0), omega (arith, l .inv .1 .long)))
 
 add-t : tie.Need-add-t Inv-loop μ-loop
 add-t c = omega arith
@@ -40,18 +40,15 @@ loop-less c = omega arith
 
 loop-again : tie.Need-loop-again Inv-loop μ-loop
 loop-again c =
-    let o = c .before .before .before .before .before in
+    let l = c .before .before .before .before .before .loop in
     let a = c .before .before .before .before .before .before .before .args in
-    (omega arith, turned-more (a .w) (a .words) (a .e) (o .loop .t) (a .out .now) (o .loop .out) _ (o .loop .inv .1) (c .before .before .write-step .ensures))
+    (omega arith, turned-more (a .w) (a .words) (l .t) (l .inv .1) (c .before .before .write-step .ensures))
 
 same-length : tie.Need-same-length Inv-loop μ-loop
 same-length c = c .before .loop .inv .1 .long
 
 returns : tie.Need-returns Inv-loop μ-loop
-returns c =
-    let a = c .before .before .before .args in
-    let e : c .before .loop .t ≡ a .count = omega arith in
-    subst (λ (k : ℕ). Written (turned (a .w) (a .words) (a .e)) (a .e) (a .e + 8 * k) (a .out .now) (c .before .loop .out)) e (c .before .loop .inv .1)
+returns c = made-to (c .before .loop .inv .1) (omega arith)
 
 pub write-turn-spec : {M : Type 1} → statement M
 write-turn-spec =

@@ -25,14 +25,18 @@ module _ (c : tie.After-cmp) where
 
   left : t .to-revcomp .last .1 .1 .1 .0 ≡ flippedOver 2 (s .args .bases .now) 0 (s .args .count) (s .args .other .now)
   left =
-      flip-left (s .args .bases .now) (s .args .other .now) (s .args .count) (s .pre) (search needs) (search needs) (t .to-revcomp .result) _ _ _
-      (t .before .before .before .before .new .ensures) (t .before .before .before .new2 .ensures) (t .to-revcomp .ensures .0) (t .to-revcomp .ensures .1)
+      let from = t .before .before .before in
+      let flip = t .to-revcomp in
+      flip-left (s .args .bases .now) (s .args .other .now) (s .args .count) (s .pre) (search needs) (search needs) (flip .result) _ _ _
+      (from .before .new .ensures) (from .new2 .ensures) (flip .ensures .0) (flip .ensures .1)
 
   right : c .cmp .result ≡ Ordered.Is order
   unfolding order
   right =
-      strand-order (s .args .bases .now) (s .args .other .now) (s .args .count) (s .pre) (search needs) (search needs) (t .to-revcomp .result) _ _ _
-      (t .before .before .before .before .new .ensures) (t .before .before .before .new2 .ensures) (t .to-revcomp .ensures .0) (t .to-revcomp .ensures .1) (c .cmp .result) (t .to-revcomp .kept .1 .1 .1 .0) (c .cmp .ensures)
+      let from = t .before .before .before in
+      let flip = t .to-revcomp in
+      strand-order (s .args .bases .now) (s .args .other .now) (s .args .count) (s .pre) (search needs) (search needs) (flip .result) _ _ _
+      (from .before .new .ensures) (from .new2 .ensures) (flip .ensures .0) (flip .ensures .1) (c .cmp .result) (flip .kept .1 .1 .1 .0) (c .cmp .ensures)
 
 new-requires : tie.Need-new-requires
 new-requires c κs = search needs

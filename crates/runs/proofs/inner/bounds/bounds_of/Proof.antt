@@ -41,12 +41,15 @@ count-requires-4 c κs = search needs
 
 returns : tie.Need-returns
 returns c =
-    let w = c .before .before .before .before .before .before .before .before .before .before .before .args .w in
+    let k = c .before .before .before .before in
+    let j = k .before .before .before in
+    let i = j .before .before .before in
+    let w = i .before .args .w in
     record {
-      first = c .before .before .before .before .before .before .before .count .ensures ∙ c .before .before .before .before .before .before .before .before .byte-of .ensures ∙ ap (λ (x : ℕ). x / per w) (c .before .before .before .before .before .before .before .before .before .new2 .ensures);
-      from = c .before .before .before .before .count2 .ensures ∙ c .before .before .before .before .before .bytes-for .ensures ∙ ap (up w) (c .before .before .before .before .before .before .new3 .ensures);
-      to = c .before .before .count3 .ensures ∙ c .before .before .before .byte-of2 .ensures ∙ ap (λ (x : ℕ). x / per w) (c .before .before .before .before .before .before .before .before .before .before .new .ensures);
-      last = c .count4 .ensures ∙ c .before .bytes-for2 .ensures ∙ ap (up w) (c .before .before .before .before .before .before .before .before .before .before .new .ensures);
+      first = j .count .ensures ∙ j .before .byte-of .ensures ∙ ap (λ (x : ℕ). x / per w) (j .before .before .new2 .ensures);
+      from = k .count2 .ensures ∙ k .before .bytes-for .ensures ∙ ap (up w) (k .before .before .new3 .ensures);
+      to = c .before .before .count3 .ensures ∙ c .before .before .before .byte-of2 .ensures ∙ ap (λ (x : ℕ). x / per w) (i .new .ensures);
+      last = c .count4 .ensures ∙ c .before .bytes-for2 .ensures ∙ ap (up w) (i .new .ensures);
     }
 
 pub bounds-of-spec : {M : Type 1} → statement M

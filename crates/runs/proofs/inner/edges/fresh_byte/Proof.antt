@@ -8,7 +8,7 @@ use Rattle.codes.specs.Codes.{per, code, tab}
 use Rattle.codes.specs.Words.{word}
 use Rattle.codes.proofs.TabLaws.{word-tab-step}
 use Rattle.codes.proofs.WidthLaws.{per-le, chars-bound}
-use Rattle.runs.specs.Runs.{freshChar, freshByte}
+use Rattle.runs.specs.Bytes.{freshChar, freshByte}
 use Rattle.runs.proofs.SpliceLaws.{codes-lt}
 use Rattle.runs.proofs.FreshLaws.{fresh-lt, word-tab-lt}
 use Rattle.runs.proofs.inner.edges.fresh_byte.Statement.{statement}

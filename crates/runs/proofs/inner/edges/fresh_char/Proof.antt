@@ -3,7 +3,7 @@ use mathlib.Core.Path.{sym, _∙_}
 use Prim.Native.Nat.{_-_}
 use native.Mathlib.Omega.{arith}
 use borrow.Author.Needs.{needs}
-use Rattle.runs.specs.Runs.{freshChar}
+use Rattle.runs.specs.Bytes.{freshChar}
 use Rattle.runs.proofs.SpliceLaws.{splice-old, splice-new, splice-far, getD-codes, getD-codes-out}
 use Rattle.runs.proofs.inner.edges.fresh_char.Statement.{statement}
 use Rattle.runs.proofs.inner.edges.fresh_char.Tie as tie

@@ -1,13 +1,12 @@
 -- The three runs are one from the byte of the length to that of the last character, and all else stays. Assumes nothing.
-use mathlib.Core.List.{List}
 use mathlib.Core.Path.{_≡_, sym, ap, _∙_}
 use Prim.Native.Nat.{ℕ, _+_, _*_, _^_, _≤_, _<_}
 use native.Mathlib.Nat.{le-of-eq}
 use native.Mathlib.Omega.{arith}
 use borrow.Author.Needs.{needs}
 use lib.ListN.{length, getD}
-use Rattle.codes.specs.Codes.{IsWidth, per, up}
-use Rattle.runs.specs.Runs.{Placed, seqChars}
+use Rattle.codes.specs.Codes.{IsWidth, per}
+use Rattle.runs.specs.Bytes.{Placed, placedStop}
 use Rattle.runs.specs.declared.inner.bounds.Bounds.{Bounds}
 use Rattle.runs.specs.declared.inner.seqs.Place.{Place}
 use Rattle.runs.proofs.FreshLaws.{made-splice, made-three}
@@ -36,12 +35,6 @@ module _ (c : tie.After-bounds-of) where
   abbrev end : ℕ
   end = p .start + p .count
 
-  abbrev stop : ℕ
-  stop = up (s .args .w) end * per (s .args .w)
-
-  abbrev cs : List ℕ
-  cs = seqChars (s .args .w) (p .len) (s .args .view .now) (p .offset) (p .count)
-
   bytes : (j : ℕ) → getD (s .args .buffer .now) j 0 < 256
   bytes j = c .before .before .before .slice-known .given j .fits
 
@@ -54,7 +47,7 @@ module _ (c : tie.After-bounds-of) where
   room : b .last ≤ length (s .args .buffer .now)
   room = omega (arith, c .bounds-of .ensures .last, s .pre .1 .1 .1)
 
-  stop-le : stop ≤ b .last * per (s .args .w)
+  stop-le : placedStop (s .args .w) p ≤ b .last * per (s .args .w)
   stop-le = le-of-eq (sym (ap (λ (x : ℕ). x * per (s .args .w)) (c .bounds-of .ensures .last)))
 
   known : Ends (s .args .w) end b
@@ -76,15 +69,18 @@ seq-run-requires c κs =
 
 copy-run-requires : tie.Need-copy-run-requires
 copy-run-requires c κs =
-    let k = c .before .before .before .before .before .before .before in
-    let a = s k .args in
-    let t : b k .from < b k .to = c .before .before .before .before .before .if1 .taken in
-    (W k, ((omega arith, omega (arith, known k .to-last, room k, c .before .before .before .seq-run .ensures .long)), copy-room (W k) (p k .len) (a .view .now) (p k .offset) (p k .count) (p k .start) (b k .from) (b k .to) (placed k .starts) (k .bounds-of .ensures .from) (known k .to-end) (length (a .view .now)) (placed k .inside) (omega arith)))
+    let o = c .before .before .before in
+    let k = o .before .before .before .before in
+    let m : b k .from < b k .to = o .before .before .if1 .taken in
+    let fits = copy-room (W k) _ (s k .args .view .now) _ _ _ _ _ (placed k .starts) (k .bounds-of .ensures .from) (known k .to-end) _ (placed k .inside) (omega arith) in
+    (W k, ((omega arith, omega (arith, known k .to-last, room k, o .seq-run .ensures .long)), fits))
 
 seq-run-requires-2 : tie.Need-seq-run-requires-2
 seq-run-requires-2 c κs =
-    let k = c .before .before .before .before .before .before .before .before .before .before .before in
-    let e : length (c .before .before .before .copy-run .last .0) ≡ length (s k .args .buffer .now) = c .before .before .before .copy-run .ensures .long ∙ c .before .before .before .before .before .before .before .seq-run .ensures .long in
+    let t = c .before .before .before in
+    let o = t .before .before .before .before in
+    let k = o .before .before .before .before in
+    let e : length (t .copy-run .last .0) ≡ length (s k .args .buffer .now) = t .copy-run .ensures .long ∙ o .seq-run .ensures .long in
     (W k, (placed k, (known k .to-last, le-of-eq (k .bounds-of .ensures .last), omega (arith, room k), omega (arith, small k))))
 
 seq-run-requires-3 : tie.Need-seq-run-requires-3
@@ -97,13 +93,13 @@ same-length c = search needs
 
 returns : tie.Need-returns
 returns c =
-    let k = c .before .before .before .before .before .before .before .before .before .before .before .before .before .before in
-    let a = s k .args in
-    let t : b k .from < b k .to = c .before .before .before .before .before .before .before .before .before .before .before .before .if1 .taken in
-    made-three (W k) (a .buffer .now) (p k .len) (cs k) (stop k) (bytes k) (b k .first) (b k .from) (b k .to) (b k .last) _ _ _ _
+    let t = c .before .before .before .before .before .before in
+    let o = t .before .before .before .before in
+    let k = o .before .before .before .before in
+    let m : b k .from < b k .to = o .before .before .if1 .taken in
+    made-three (W k) _ _ _ _ (bytes k) (o .seq-run .ensures) (t .copy-run .ensures) (c .before .before .seq-run2 .ensures)
     (k .bounds-of .ensures .first) (known k .first-from) (omega arith) (known k .to-last) (stop-le k)
-    (c .before .before .before .before .before .before .before .before .before .before .seq-run .ensures) (c .before .before .before .before .before .before .copy-run .ensures) (c .before .before .seq-run2 .ensures)
-    (λ j h l. copied (W k) (p k .len) (a .view .now) (p k .offset) (p k .count) (p k .start) (b k .from) (b k .to) (placed k .starts) (k .bounds-of .ensures .from) (known k .to-end) (view-bytes k) _ j h l)
+    (λ j h l. copied (W k) (p k .len) (s k .args .view .now) (p k .offset) (p k .count) _ _ _ (placed k .starts) (k .bounds-of .ensures .from) (known k .to-end) (view-bytes k) _ j h l)
 
 same-length-2 : tie.Need-same-length-2
 same-length-2 c = search needs
@@ -111,8 +107,7 @@ same-length-2 c = search needs
 returns-2 : tie.Need-returns-2
 returns-2 c =
     let k = c .before .before .before .before .before .before in
-    let a = s k .args in
-    made-splice (W k) (a .buffer .now) (p k .len) (cs k) (stop k) (bytes k) (b k .first) (b k .last) _ (k .bounds-of .ensures .first) (stop-le k) (c .before .before .seq-run3 .ensures)
+    made-splice (W k) _ _ _ _ (bytes k) (c .before .before .seq-run3 .ensures) (k .bounds-of .ensures .first) (stop-le k)
 
 pub fill-seq-spec : {M : Type 1} → statement M
 fill-seq-spec =

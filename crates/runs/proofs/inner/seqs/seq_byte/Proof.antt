@@ -5,11 +5,11 @@ use Prim.Native.Nat.{ℕ, _+_, _-_, _*_, _^_, _≤_, _<_}
 use native.Mathlib.Omega.{arith}
 use lib.Arith.{digits-lt}
 use borrow.Author.Needs.{needs}
-use Rattle.codes.specs.Codes.{per, up, tab}
+use Rattle.codes.specs.Codes.{per, tab}
 use Rattle.codes.specs.Words.{word}
 use Rattle.codes.proofs.TabLaws.{word-tab-step}
 use Rattle.codes.proofs.WidthLaws.{per-le, chars-bound}
-use Rattle.runs.specs.Runs.{freshChar, freshByte, seqChars}
+use Rattle.runs.specs.Bytes.{freshChar, freshByte, placedChars, placedStop}
 use Rattle.runs.specs.declared.inner.seqs.Place.{Place}
 use Rattle.runs.proofs.FreshLaws.{fresh-lt, word-tab-lt}
 use Rattle.runs.proofs.SeqLaws.{seq-lt}
@@ -18,7 +18,7 @@ use Rattle.runs.proofs.inner.seqs.seq_byte.Tie as tie
 
 -- character j of the byte
 abbrev made : (old w first : ℕ) (p : Place) (view : List ℕ) → ℕ → ℕ
-made old w first p view j = freshChar w old (p .len) (seqChars w (p .len) view (p .offset) (p .count)) (up w (p .start + p .count) * per w) (first + j) j
+made old w first p view j = freshChar w old (p .len) (placedChars w p view) (placedStop w p) (first + j) j
 
 abbrev Inv-loop : tie.InvT-loop
 Inv-loop old w b q p view c first byte₀ k₀ byte k = (k ≤ c) × (byte ≡ word w (tab k (made old w first p view)))
@@ -67,8 +67,10 @@ seq-char-requires c κs =
     let p = c .before .before in
     let a = s p .args in
     let k = c .before .loop .k in
+    let h = s p .pre .1 in
     let l : k < per (a .w) = omega (arith, size p) in
-    (s p .pre .0, (s p .pre .1 .0, (l, omega (arith, first-is p, digits-lt (s p .pre .1 .1 .0 .0) l), subst (λ (x : ℕ). a .p .start ≤ x + k → a .q * per (a .w) + k ≡ a .p .offset + (x + k - a .p .start)) (sym (first-is p)) (s p .pre .1 .1 .1 k l))))
+    let q = subst (λ (x : ℕ). a .p .start ≤ x + k → a .q * per (a .w) + k ≡ a .p .offset + (x + k - a .p .start)) (sym (first-is p)) (h .1 .1 k l) in
+    (s p .pre .0, (h .0, (l, omega (arith, first-is p, digits-lt (h .1 .0 .0) l), q)))
 
 add-digit-requires : tie.Need-add-digit-requires Inv-loop μ-loop
 add-digit-requires c κs =
@@ -76,8 +78,9 @@ add-digit-requires c κs =
     let p = c .before .before .before in
     let a = s p .args in
     let v = a .p in
-    let f : ℕ → ℕ = made (a .old) (a .w) (p .count2 .result) (a .p) (a .view .now) in
-    let fit : (j : ℕ) → f j < 2 ^ a .w = λ j. fresh-lt (a .w) (a .old) (v .len) (seqChars (a .w) (v .len) (a .view .now) (v .offset) (v .count)) (up (a .w) (v .start + v .count) * per (a .w)) (seq-lt (s p .pre .0) (v .len) (a .view .now) (v .offset) (v .count)) (p .count2 .result + j) j in
+    let f : ℕ → ℕ = made (a .old) (a .w) (p .count2 .result) v (a .view .now) in
+    let few = seq-lt (s p .pre .0) (v .len) (a .view .now) (v .offset) (v .count) in
+    let fit : (j : ℕ) → f j < 2 ^ a .w = λ j. fresh-lt (a .w) (a .old) (v .len) (placedChars (a .w) v (a .view .now)) (placedStop (a .w) v) few (p .count2 .result + j) j in
     (s p .pre .0, (omega (arith, size p), (rw (l .loop .inv .1) (word-tab-lt (a .w) (l .loop .k) f fit), rw (c .seq-char .ensures) (fit (l .loop .k)))))
 
 add-k : tie.Need-add-k Inv-loop μ-loop

@@ -9,7 +9,8 @@ use lib.ListN.{length}
 use Rattle.codes.specs.Codes.{charAt}
 use Rattle.codes.proofs.CharLaws.{charAt-at}
 use Rattle.codes.proofs.WidthLaws.{per-pos}
-use Rattle.runs.specs.Runs.{freshChar, seqStart}
+use Rattle.runs.specs.Bytes.{freshChar}
+use Rattle.runs.specs.Runs.{seqStart}
 use Rattle.runs.proofs.SpliceLaws.{splice-old, splice-new}
 use Rattle.runs.proofs.SeqLaws.{seq-gap, seq-char, seq-out}
 use Rattle.runs.proofs.inner.seqs.seq_char.Statement.{statement}

@@ -1,27 +1,22 @@
 -- The invariant: the bytes up to j are made anew. Assumes nothing.
 use mathlib.Core.Path.{_≡_, sym, ap, ap₂, _∙_, subst}
-use mathlib.Core.List.{List}
 use Prim.Native.Nat.{ℕ, _+_, _-_, _*_, _/_, _≤_, _<_}
-use native.Mathlib.Nat.{le-refl}
 use native.Mathlib.Omega.{arith}
 use borrow.Author.Needs.{needs}
-use lib.ListN.{length, getD}
+use lib.ListN.{length}
 use Rattle.codes.proofs.WidthLaws.{up-whole}
 use Rattle.codes.specs.Codes.{per, up}
-use Rattle.runs.specs.Runs.{Made, freshByte, seqChars}
-use Rattle.runs.specs.declared.inner.seqs.Place.{Place}
+use Rattle.codes.specs.Made.{Made}
+use Rattle.codes.proofs.MadeLaws.{made-none, made-to}
+use Rattle.runs.specs.Bytes.{anew, placedChars, placedStop}
+use Rattle.runs.proofs.FreshLaws.{anew-more}
 use Rattle.runs.proofs.RoomLaws.{div-up}
 use Rattle.runs.proofs.SeqLaws.{lined-up}
-use Rattle.runs.proofs.RunLaws.{made-none, made-more}
 use Rattle.runs.proofs.inner.seqs.seq_run.Statement.{statement}
 use Rattle.runs.proofs.inner.seqs.seq_run.Tie as tie
 
--- byte b made anew
-abbrev anew : (old w : ℕ) (p : Place) (view : List ℕ) → ℕ → ℕ
-anew old w p view b = freshByte w old (p .len) (seqChars w (p .len) view (p .offset) (p .count)) (up w (p .start + p .count) * per w) b
-
 abbrev Inv-loop : tie.InvT-loop
-Inv-loop buffer₀ w from to p view lead first j₀ buffer j = (from ≤ j) × (j ≤ to) × Made buffer₀ from j (λ b. anew (getD buffer₀ b 0) w p view b) buffer
+Inv-loop buffer₀ w from to p view lead first j₀ buffer j = (from ≤ j) × (j ≤ to) × Made (anew w buffer₀ (p .len) (placedChars w p view) (placedStop w p)) from j buffer₀ buffer
 
 abbrev μ-loop : tie.MeasureT-loop
 μ-loop buffer₀ w from to p view lead first j₀ buffer j = to - j
@@ -50,13 +45,14 @@ module _ (c : tie.After-count2 Inv-loop μ-loop) where
   s = c .before .before .before .before .before .before .before .before
 
   lead-is : c .before .before .before .count .result ≡ s .args .p .offset / per (s .args .w)
-  lead-is = c .before .before .before .count .ensures ∙ c .before .before .before .before .byte-of .ensures ∙ ap (λ (x : ℕ). x / per (s .args .w)) (c .before .before .before .before .before .new .ensures)
+  lead-is =
+      let k = c .before .before .before in k .count .ensures ∙ k .before .byte-of .ensures ∙ ap (λ (x : ℕ). x / per (s .args .w)) (k .before .before .new .ensures)
 
   first-is : c .count2 .result ≡ up (s .args .w) (s .args .p .len)
   first-is = c .count2 .ensures ∙ c .before .bytes-for .ensures ∙ ap (up (s .args .w)) (c .before .before .new2 .ensures)
 
 loop-holds : tie.Need-loop-holds Inv-loop μ-loop
-loop-holds c = (omega arith, omega arith, made-none _ _ _)
+loop-holds c = (omega arith, omega arith, made-none (omega arith))
 
 slice-read-seq-byte : tie.Need-slice-read-seq-byte Inv-loop μ-loop
 slice-read-seq-byte c = omega (arith, c .before .before .loop .inv .2 .long)
@@ -65,8 +61,10 @@ over-requires : tie.Need-over-requires Inv-loop μ-loop
 over-requires c κs =
     let q = c .before .before .before in
     let a = s q .args in
+    let h = s q .pre .1 .0 in
     let n : ℕ = length (a .view .now) in
-    (omega (arith, s q .pre .1 .1), omega (arith, lead-is q, div-up (s q .pre .0) (a .p .offset) (n * per (a .w)) (omega (arith, s q .pre .1 .0 .inside)), up-whole (s q .pre .0) n, s q .pre .1 .0 .small))
+    let l = div-up (s q .pre .0) (a .p .offset) (n * per (a .w)) (omega (arith, h .inside)) in
+    (omega (arith, s q .pre .1 .1), omega (arith, lead-is q, up-whole (s q .pre .0) n, h .small))
 
 seq-byte-requires : tie.Need-seq-byte-requires Inv-loop μ-loop
 seq-byte-requires c κs =
@@ -93,20 +91,13 @@ loop-less c = omega arith
 loop-again : tie.Need-loop-again Inv-loop μ-loop
 loop-again c =
     let l = c .before .before .before .before in
-    let a = s (c .before .before .before .before .before) .args in (
-      omega arith,
-      omega arith,
-      made-more _ _ _ _ _ _ (l .loop .inv .0) (omega (arith, s (c .before .before .before .before .before) .pre .1 .1)) (c .seq-byte .ensures ∙ ap (λ (x : ℕ). anew x (a .w) (a .p) (a .view .now) (l .loop .j)) (l .loop .inv .2 .above (l .loop .j) (le-refl (l .loop .j)))) (l .loop .inv .2),
-    )
+    (omega arith, omega arith, anew-more _ _ _ _ (l .loop .inv .2) (omega arith) (omega (arith, s (l .before) .pre .1 .1)) (c .seq-byte .ensures))
 
 same-length : tie.Need-same-length Inv-loop μ-loop
 same-length c = c .before .loop .inv .2 .long
 
 returns : tie.Need-returns Inv-loop μ-loop
-returns c =
-    let a = s (c .before .before) .args in
-    let e : c .before .loop .j ≡ a .to = omega arith in
-    subst (λ (x : ℕ). Made (a .buffer .now) (a .from) x (λ b. anew (getD (a .buffer .now) b 0) (a .w) (a .p) (a .view .now) b) (c .before .loop .buffer)) e (c .before .loop .inv .2)
+returns c = made-to (c .before .loop .inv .2) (omega arith)
 
 pub seq-run-spec : {M : Type 1} → statement M
 seq-run-spec =

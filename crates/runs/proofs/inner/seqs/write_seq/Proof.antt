@@ -1,18 +1,18 @@
 -- The zeros behind what was filled make it whole. Assumes nothing.
 use mathlib.Core.List.{List}
-use mathlib.Core.Path.{_≡_, sym, ap, _∙_, subst}
+use mathlib.Core.Path.{_≡_, sym, ap, _∙_}
 use Prim.Native.Nat.{ℕ, _+_, _*_, _^_, _≤_}
 use native.Mathlib.Omega.{arith}
 use borrow.Author.Needs.{needs}
 use lib.ListN.{length}
-use Rattle.codes.specs.Codes.{IsWidth, per, up, charAt}
-use Rattle.codes.specs.Words.{pack}
-use Rattle.codes.specs.Zeros.{Zeroed}
-use Rattle.runs.specs.Runs.{seqChars, splice}
+use Rattle.codes.specs.Codes.{IsWidth, per, up, trailing}
+use Rattle.codes.proofs.MadeLaws.{made-at}
+use Rattle.runs.specs.Bytes.{placedChars}
+use Rattle.runs.specs.Runs.{spliced}
 use Rattle.runs.specs.declared.inner.seqs.Place.{Place}
 use Rattle.runs.proofs.RoomLaws.{room-chars}
 use Rattle.runs.proofs.SeqLaws.{seq-end}
-use Rattle.runs.proofs.WrittenLaws.{zeroed-written}
+use Rattle.runs.proofs.WrittenLaws.{made-written}
 use Rattle.runs.proofs.inner.seqs.write_seq.Statement.{statement}
 use Rattle.runs.proofs.inner.seqs.write_seq.Tie as tie
 
@@ -33,7 +33,7 @@ module _ (c : tie.After-count) where
   small : length (s .args .buffer .now) ≤ 2 ^ 28
   small = s .pre .1 .1 .0
 
-  room : up (s .args .w) end + 48 ≤ length (s .args .buffer .now)
+  room : up (s .args .w) end + trailing ≤ length (s .args .buffer .now)
   room = s .pre .1 .1 .1
 
   last-is : c .count .result ≡ up (s .args .w) end
@@ -68,13 +68,15 @@ same-length c = search needs
 
 returns : tie.Need-returns
 returns c =
-    let k = c .before .before .before .before .before .before .before .before in
+    let z = c .before .before in
+    let f = z .before .before .before .before in
+    let k = f .before .before in
     let a = s k .args in
-    let cs : List ℕ = seqChars (a .w) (p k .len) (a .view .now) (p k .offset) (p k .count) in
-    let n : p k .start + p k .count ≡ p k .len + length cs = ap (λ (x : ℕ). x + p k .count) (s k .pre .1 .0 .starts) ∙ sym (seq-end (W k) (p k .len) (a .view .now) (p k .offset) (p k .count)) in
-    zeroed-written (W k) (a .buffer .now) (p k .len) cs (c .before .before .before .before .before .before .fill-seq .last .0) _
-    (c .before .before .before .before .before .before .fill-seq .ensures ∙ ap (λ (x : ℕ). pack (a .w) (length (a .buffer .now)) (splice (charAt (a .w) (a .buffer .now)) (p k .len) cs (up (a .w) x * per (a .w)))) n)
-    (subst (λ (x : ℕ). Zeroed (c .before .before .before .before .before .before .fill-seq .last .0) x (x + 48) (c .before .before .zero-run .last .0)) (last-is k ∙ ap (up (a .w)) n) (c .before .before .zero-run .ensures))
+    let v = p k in
+    let cs : List ℕ = placedChars (a .w) v (a .view .now) in
+    let n : end k ≡ v .len + length cs = ap (λ (x : ℕ). x + v .count) (s k .pre .1 .0 .starts) ∙ sym (seq-end (W k) (v .len) (a .view .now) (v .offset) (v .count)) in
+    made-written (W k) (a .buffer .now) (v .len) cs (made-at trailing (z .zero-run .ensures) (last-is k ∙ ap (up (a .w)) n))
+    (f .fill-seq .ensures ∙ ap (λ (x : ℕ). spliced (a .w) (a .buffer .now) (v .len) cs (up (a .w) x * per (a .w))) n)
 
 pub write-seq-spec : {M : Type 1} → statement M
 write-seq-spec =

@@ -26,24 +26,30 @@ shared-slice-read-char-is-ambiguous-2 c = search needs
 char-is-ambiguous-requires-2 : tie.Need-char-is-ambiguous-requires-2
 char-is-ambiguous-requires-2 c κs = search needs
 
+-- each flag is below 2
+module _ (c : tie.After-char-is-ambiguous2) where
+  abbrev s : tie.Start
+  s = c .before .before .before .before .before
+
+  first : c .before .before .char-is-ambiguous .result < 2
+  unfolding code
+  first = rw (c .before .before .char-is-ambiguous .ensures) (code-lt width-1 (getD (s .args .letters .now) (s .args .i) 0))
+
+  second : c .char-is-ambiguous2 .result < 2
+  unfolding code
+  second = rw (c .char-is-ambiguous2 .ensures) (code-lt width-1 (getD (s .args .letters .now) (s .args .i + 1) 0))
+
 mul-result : tie.Need-mul-result
-unfolding code
-mul-result c =
-    let h : c .char-is-ambiguous2 .result < 2 = rw (c .char-is-ambiguous2 .ensures) (code-lt width-1 (getD (c .before .before .before .before .before .args .letters .now) (c .before .before .before .before .before .args .i + 1) 0)) in
-    omega arith
+mul-result c = omega (arith, second c)
 
 add-result : tie.Need-add-result
-unfolding code
-add-result c =
-    let h : c .char-is-ambiguous2 .result < 2 = rw (c .char-is-ambiguous2 .ensures) (code-lt width-1 (getD (c .before .before .before .before .before .args .letters .now) (c .before .before .before .before .before .args .i + 1) 0)) in
-    let l : c .before .before .char-is-ambiguous .result < 2 = rw (c .before .before .char-is-ambiguous .ensures) (code-lt width-1 (getD (c .before .before .before .before .before .args .letters .now) (c .before .before .before .before .before .args .i) 0)) in
-    omega arith
+add-result c = omega (arith, first c, second c)
 
 returns : tie.Need-returns
 unfolding code
 returns c =
-    let ls = c .before .before .before .before .before .args .letters .now in
-    let i = c .before .before .before .before .before .args .i in
+    let ls = s c .args .letters .now in
+    let i = s c .args .i in
     letters-two 1 ls 1 i _ _ (c .before .before .char-is-ambiguous .ensures ∙ sym (letters-one 1 ls i)) (c .char-is-ambiguous2 .ensures ∙ sym (letters-one 1 ls (i + 1)))
 
 pub flags2-spec : {M : Type 1} → statement M

@@ -1,12 +1,11 @@
 -- The three runs are one from the byte of `at` to that of the last letter, and all else stays. Assumes nothing.
-use mathlib.Core.List.{map}
 use mathlib.Core.Path.{refl, sym, subst}
 use Prim.Native.Nat.{ℕ, _+_, _*_, _^_, _≤_, _<_}
 use native.Mathlib.Nat.{le-refl}
 use native.Mathlib.Omega.{arith}
 use borrow.Author.Needs.{needs}
 use lib.ListN.{length, getD}
-use Rattle.codes.specs.Codes.{IsWidth, per, code}
+use Rattle.codes.specs.Codes.{IsWidth, per}
 use Rattle.codes.proofs.WidthLaws.{up-hi}
 use Rattle.runs.specs.declared.inner.bounds.Bounds.{Bounds}
 use Rattle.runs.proofs.FreshLaws.{made-splice, made-three}
@@ -80,12 +79,12 @@ same-length c = search needs
 
 returns : tie.Need-returns
 returns c =
-    let k = c .before .before .before .before .before .before .before .before .before .before .before .before .before .before in
-    let a = s k .args in
-    let t : b k .from < b k .to = c .before .before .before .before .before .before .before .before .before .before .before .before .if1 .taken in
-    made-three (W k) (a .buffer .now) (a .at) (map (code (a .w)) (a .letters .now)) (a .stop) (bytes k) (b k .first) (b k .from) (b k .to) (b k .last) _ _ _ _
-    (k .bounds-of .ensures .first) (known k .first-from) (omega arith) (known k .to-last) (stop-le k)
-    (c .before .before .before .before .before .before .before .before .before .before .edge-run .ensures) (c .before .before .before .before .before .before .whole-run .ensures) (c .before .before .edge-run2 .ensures) (λ j h l. refl)
+    let t = c .before .before .before .before .before .before in
+    let o = t .before .before .before .before in
+    let k = o .before .before .before .before in
+    let m : b k .from < b k .to = o .before .before .if1 .taken in
+    made-three (W k) _ _ _ _ (bytes k) (o .edge-run .ensures) (t .whole-run .ensures) (c .before .before .edge-run2 .ensures)
+    (k .bounds-of .ensures .first) (known k .first-from) (omega arith) (known k .to-last) (stop-le k) (λ j h l. refl)
 
 same-length-2 : tie.Need-same-length-2
 same-length-2 c = search needs
@@ -93,8 +92,7 @@ same-length-2 c = search needs
 returns-2 : tie.Need-returns-2
 returns-2 c =
     let k = c .before .before .before .before .before .before in
-    let a = s k .args in
-    made-splice (W k) (a .buffer .now) (a .at) (map (code (a .w)) (a .letters .now)) (a .stop) (bytes k) (b k .first) (b k .last) _ (k .bounds-of .ensures .first) (stop-le k) (c .before .before .edge-run3 .ensures)
+    made-splice (W k) _ _ _ _ (bytes k) (c .before .before .edge-run3 .ensures) (k .bounds-of .ensures .first) (stop-le k)
 
 pub fill-letters-spec : {M : Type 1} → statement M
 fill-letters-spec =

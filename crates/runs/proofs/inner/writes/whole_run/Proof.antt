@@ -1,11 +1,6 @@
 -- Each width's run is one of bytes made anew. Assumes nothing.
-use mathlib.Core.Path.{_≡_, sym, ap, subst}
-use Prim.Native.Nat.{ℕ, _+_, _-_, _*_}
-use native.Mathlib.Omega.{arith}
 use borrow.Author.Needs.{needs}
-use Rattle.codes.specs.Codes.{per}
-use Rattle.runs.specs.Runs.{Made, lettersWord}
-use Rattle.runs.proofs.FreshLaws.{made-whole}
+use Rattle.runs.proofs.FreshLaws.{whole-room, made-whole}
 use Rattle.runs.proofs.inner.writes.whole_run.Statement.{statement}
 use Rattle.runs.proofs.inner.writes.whole_run.Tie as tie
 
@@ -13,37 +8,20 @@ mul-bases-run : tie.Need-mul-bases-run
 mul-bases-run c = search needs
 
 sub-bases-run : tie.Need-sub-bases-run
-sub-bases-run c =
-    let s = c .before .before .before .before in
-    let a = s .args in
-    let e : (x : ℕ) → x * per (a .w) ≡ x * 4 = λ x. ap (λ (y : ℕ). x * per y) (c .before .if1 .taken) in
-    omega (arith, e (a .from), s .pre .1 .1 .0)
+sub-bases-run c = let h = c .before .before .before .before .pre .1 in whole-room (c .before .if1 .taken) (h .1 .0) (h .1 .1) (h .0 .0) .0
 
 bases-run-requires : tie.Need-bases-run-requires
-bases-run-requires c κs =
-    let s = c .before .before .before .before in
-    let a = s .args in
-    let e : (x : ℕ) → x * per (a .w) ≡ x * 4 = λ x. ap (λ (y : ℕ). x * per y) (c .before .if1 .taken) in
-    let m : a .to * 4 ≡ a .from * 4 + (a .to - a .from) * 4 = omega (arith, s .pre .1 .0 .0) in
-    ((s .pre .1 .0 .0, s .pre .1 .0 .1), omega (arith, e (a .from), e (a .to), s .pre .1 .1 .0, s .pre .1 .1 .1))
+bases-run-requires c κs = let h = c .before .before .before .before .pre .1 in ((h .0 .0, h .0 .1), whole-room (c .before .if1 .taken) (h .1 .0) (h .1 .1) (h .0 .0) .1)
 
 mul-flags-run : tie.Need-mul-flags-run
 mul-flags-run c = search needs
 
 sub-flags-run : tie.Need-sub-flags-run
-sub-flags-run c =
-    let s = c .before .before .before .before .before in
-    let a = s .args in
-    let e : (x : ℕ) → x * per (a .w) ≡ x * 8 = λ x. ap (λ (y : ℕ). x * per y) (c .before .if2 .taken) in
-    omega (arith, e (a .from), s .pre .1 .1 .0)
+sub-flags-run c = let h = c .before .before .before .before .before .pre .1 in whole-room (c .before .if2 .taken) (h .1 .0) (h .1 .1) (h .0 .0) .0
 
 flags-run-requires : tie.Need-flags-run-requires
 flags-run-requires c κs =
-    let s = c .before .before .before .before .before in
-    let a = s .args in
-    let e : (x : ℕ) → x * per (a .w) ≡ x * 8 = λ x. ap (λ (y : ℕ). x * per y) (c .before .if2 .taken) in
-    let m : a .to * 8 ≡ a .from * 8 + (a .to - a .from) * 8 = omega (arith, s .pre .1 .0 .0) in
-    ((s .pre .1 .0 .0, s .pre .1 .0 .1), omega (arith, e (a .from), e (a .to), s .pre .1 .1 .0, s .pre .1 .1 .1))
+    let h = c .before .before .before .before .before .pre .1 in ((h .0 .0, h .0 .1), whole-room (c .before .if2 .taken) (h .1 .0) (h .1 .1) (h .0 .0) .1)
 
 edge-run-requires : tie.Need-edge-run-requires
 edge-run-requires c κs = search needs
@@ -53,20 +31,16 @@ same-length c = search needs
 
 returns : tie.Need-returns
 returns c =
-    let s = c .before .before .before .before .before .before .before in
-    let a = s .args in
-    made-whole (a .w) (a .at) (a .letters .now) (a .stop) (a .from) (a .to) (a .buffer .now) _ (s .pre .1 .1 .0) (s .pre .1 .1 .1) (s .pre .1 .1 .2)
-    (subst (λ (x : ℕ). Made (a .buffer .now) (a .from) (a .to) (λ j. lettersWord x (per x) (a .letters .now) (a .from * per x - a .at + (j - a .from) * per x)) (c .before .before .bases-run .last .0)) (sym (c .before .before .before .before .if1 .taken)) (c .before .before .bases-run .ensures))
+    let h = c .before .before .before .before .before .before .before .pre .1 .1 in
+    made-whole (c .before .before .before .before .if1 .taken) _ (c .before .before .bases-run .ensures) (h .0) (h .1) (h .2)
 
 same-length-2 : tie.Need-same-length-2
 same-length-2 c = search needs
 
 returns-2 : tie.Need-returns-2
 returns-2 c =
-    let s = c .before .before .before .before .before .before .before .before in
-    let a = s .args in
-    made-whole (a .w) (a .at) (a .letters .now) (a .stop) (a .from) (a .to) (a .buffer .now) _ (s .pre .1 .1 .0) (s .pre .1 .1 .1) (s .pre .1 .1 .2)
-    (subst (λ (x : ℕ). Made (a .buffer .now) (a .from) (a .to) (λ j. lettersWord x (per x) (a .letters .now) (a .from * per x - a .at + (j - a .from) * per x)) (c .before .before .flags-run .last .0)) (sym (c .before .before .before .before .if2 .taken)) (c .before .before .flags-run .ensures))
+    let h = c .before .before .before .before .before .before .before .before .pre .1 .1 in
+    made-whole (c .before .before .before .before .if2 .taken) _ (c .before .before .flags-run .ensures) (h .0) (h .1) (h .2)
 
 same-length-3 : tie.Need-same-length-3
 same-length-3 c = search needs

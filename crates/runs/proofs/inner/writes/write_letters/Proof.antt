@@ -1,18 +1,17 @@
 -- The zeros behind what was filled make it whole. Assumes nothing.
 use mathlib.Core.List.{List, map}
-use mathlib.Core.Path.{_≡_, sym, ap, _∙_, subst}
+use mathlib.Core.Path.{_≡_, sym, ap, _∙_}
 use Prim.Native.Nat.{ℕ, _+_, _*_, _^_, _≤_}
 use native.Mathlib.Nat.{le-of-eq}
 use native.Mathlib.Omega.{arith}
 use borrow.Author.Needs.{needs}
 use lib.ListN.{length, length-map}
-use Rattle.codes.specs.Codes.{IsWidth, per, up, charAt, code}
-use Rattle.codes.specs.Words.{pack}
-use Rattle.codes.specs.Zeros.{Zeroed}
+use Rattle.codes.specs.Codes.{IsWidth, per, up, trailing, code}
+use Rattle.codes.proofs.MadeLaws.{made-at}
 use Rattle.codes.proofs.WidthLaws.{up-hi}
-use Rattle.runs.specs.Runs.{splice}
+use Rattle.runs.specs.Runs.{spliced}
 use Rattle.runs.proofs.RoomLaws.{room-chars}
-use Rattle.runs.proofs.WrittenLaws.{zeroed-written}
+use Rattle.runs.proofs.WrittenLaws.{made-written}
 use Rattle.runs.proofs.inner.writes.write_letters.Statement.{statement}
 use Rattle.runs.proofs.inner.writes.write_letters.Tie as tie
 
@@ -30,7 +29,7 @@ module _ (c : tie.After-count) where
   small : length (s .args .buffer .now) ≤ 2 ^ 28
   small = s .pre .1 .0
 
-  room : up (s .args .w) end + 48 ≤ length (s .args .buffer .now)
+  room : up (s .args .w) end + trailing ≤ length (s .args .buffer .now)
   room = s .pre .1 .1
 
   used-is : c .before .bytes-for .result .0 ≡ up (s .args .w) end
@@ -81,14 +80,14 @@ same-length c = search needs
 
 returns : tie.Need-returns
 returns c =
-    let k = c .before .before .before .before .before .before .before .before .before .before in
+    let z = c .before .before in
+    let f = z .before .before .before .before in
+    let k = f .before .before .before .before in
     let a = s k .args in
     let cs : List ℕ = map (code (a .w)) (a .letters .now) in
     let u : up (a .w) (end k) ≡ up (a .w) (a .at + length cs) = ap (λ (x : ℕ). up (a .w) (a .at + x)) (sym (length-map (a .letters .now) (code (a .w)))) in
-    let d = c .before .before .before .before .before .before .fill-letters .last .0 in
-    zeroed-written (W k) (a .buffer .now) (a .at) cs d _
-    (c .before .before .before .before .before .before .fill-letters .ensures ∙ ap (λ (x : ℕ). pack (a .w) (length (a .buffer .now)) (splice (charAt (a .w) (a .buffer .now)) (a .at) cs x)) (stop-is (c .before .before .before .before .before .before .before .before) ∙ ap (λ (x : ℕ). x * per (a .w)) u))
-    (subst (λ (x : ℕ). Zeroed d x (x + 48) (c .before .before .zero-run .last .0)) (last-is k ∙ u) (c .before .before .zero-run .ensures))
+    made-written (W k) (a .buffer .now) (a .at) cs (made-at trailing (z .zero-run .ensures) (last-is k ∙ u))
+    (f .fill-letters .ensures ∙ ap (spliced (a .w) (a .buffer .now) (a .at) cs) (stop-is (f .before .before) ∙ ap (λ (x : ℕ). x * per (a .w)) u))
 
 pub write-letters-spec : {M : Type 1} → statement M
 write-letters-spec =

@@ -3,7 +3,7 @@ use mathlib.Core.Path.{_≡_, ap, _∙_}
 use Prim.Native.Nat.{_+_, _-_}
 use native.Mathlib.Omega.{arith}
 use borrow.Author.Needs.{needs}
-use Rattle.codes.specs.Codes.{up}
+use Rattle.codes.specs.Codes.{up, trailing}
 use Rattle.codes.proofs.WidthLaws.{ltb-eq}
 use Rattle.stores.proofs.inner.outcomes.no_room.Statement.{statement}
 use Rattle.stores.proofs.inner.outcomes.no_room.Tie as tie
@@ -24,7 +24,7 @@ returns : tie.Need-returns
 returns c =
     let a = c .before .before .before .args in
     let e : c .count .result ≡ up (a .w) (a .n) = c .count .ensures ∙ c .before .bytes-for .ensures ∙ ap (up (a .w)) (c .before .before .new .ensures) in
-    ltb-eq (a .size - 48) (c .count .result) (a .size) (up (a .w) (a .n) + 48) (λ l. omega arith) (λ l. omega arith)
+    ltb-eq (a .size - trailing) (c .count .result) (a .size) (up (a .w) (a .n) + trailing) (λ l. omega arith) (λ l. omega arith)
 
 pub no-room-spec : {M : Type 1} → statement M
 no-room-spec =

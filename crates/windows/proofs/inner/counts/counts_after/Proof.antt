@@ -1,22 +1,21 @@
 -- The invariant: the lanes below l are counted. Assumes nothing.
-use mathlib.Core.Path.{_≡_, refl, subst}
-use Prim.Native.Nat.{ℕ, _+_, _-_, _≤_}
+use mathlib.Core.Path.{refl}
+use Prim.Native.Nat.{_+_, _-_, _≤_}
 use native.Mathlib.Omega.{arith}
 use lib.ListN.{getD}
-use Rattle.lanes.specs.Written.{Written}
-use Rattle.lanes.proofs.WriteLaws.{written-none, written-more, written-all}
-use borrow.Author.Needs.{needs}
+use Rattle.codes.specs.Made.{Made}
+use Rattle.codes.proofs.MadeLaws.{made-none, made-more, made-to, made-all}
 use Rattle.windows.proofs.inner.counts.counts_after.Statement.{statement}
 use Rattle.windows.proofs.inner.counts.counts_after.Tie as tie
 
 abbrev Inv-loop : tie.InvT-loop
-Inv-loop counts enter leave out₀ l₀ out l = (l ≤ 8) × Written (λ m. getD counts m 0 + getD enter m 0 - getD leave m 0) 0 l out₀ out
+Inv-loop counts enter leave out₀ l₀ out l = (l ≤ 8) × Made (λ m. getD counts m 0 + getD enter m 0 - getD leave m 0) 0 l out₀ out
 
 abbrev μ-loop : tie.MeasureT-loop
 μ-loop counts enter leave out₀ l₀ out l = 8 - l
 
 loop-holds : tie.Need-loop-holds Inv-loop μ-loop
-loop-holds c = (search needs, written-none _ 0 0 _ (search needs))
+loop-holds c = (omega arith, made-none (omega arith))
 
 mul-out : tie.Need-mul-out Inv-loop μ-loop
 mul-out c = omega arith
@@ -55,13 +54,10 @@ loop-less : tie.Need-loop-less Inv-loop μ-loop
 loop-less c = omega arith
 
 loop-again : tie.Need-loop-again Inv-loop μ-loop
-loop-again c = (omega arith, written-more _ 0 _ _ _ _ (search needs) (omega arith) refl (c .before .loop .inv .1))
+loop-again c = (omega arith, made-more (c .before .loop .inv .1) (omega arith) (omega arith) refl)
 
 returns : tie.Need-returns Inv-loop μ-loop
-returns c =
-    let a = c .before .before .args in
-    let e : c .before .loop .l ≡ 8 = omega arith in
-    written-all (λ (m : ℕ). getD (a .t1) m 0 + getD (a .t2) m 0 - getD (a .t3) m 0) 8 _ (c .before .loop .out) refl (subst (λ (k : ℕ). Written (λ (m : ℕ). getD (a .t1) m 0 + getD (a .t2) m 0 - getD (a .t3) m 0) 0 k _ (c .before .loop .out)) e (c .before .loop .inv .1))
+returns c = made-all (made-to (c .before .loop .inv .1) (omega arith)) refl
 
 pub counts-after-spec : {M : Type 1} → statement M
 counts-after-spec =

@@ -1,24 +1,24 @@
 -- The invariant: the lanes below l are marked. Assumes nothing.
-use mathlib.Core.Path.{_≡_, refl, subst}
-use Prim.Native.Nat.{ℕ, _-_, _/_, _%_, _^_, _≤_}
+use mathlib.Core.Path.{refl}
+use Prim.Native.Nat.{_-_, _/_, _%_, _^_, _≤_}
 use native.Mathlib.Omega.{arith}
 use lib.Dec.{eqb}
 use lib.ListN.{getD}
 use Rattle.codes.specs.Codes.{pick}
-use Rattle.lanes.specs.Written.{Written}
-use Rattle.lanes.proofs.WriteLaws.{written-none, written-more, written-all}
+use Rattle.codes.specs.Made.{Made}
+use Rattle.codes.proofs.MadeLaws.{made-none, made-more, made-to, made-all}
 use borrow.Author.Needs.{needs}
 use Rattle.windows.proofs.inner.marks.mark.Statement.{statement}
 use Rattle.windows.proofs.inner.marks.mark.Tie as tie
 
 abbrev Inv-loop : tie.InvT-loop
-Inv-loop t stop words marks out₀ l₀ out l = (l ≤ 8) × Written (λ m. pick (eqb (getD words m 0 / 2 ^ t % 2) 1) stop (getD marks m 0)) 0 l out₀ out
+Inv-loop t stop words marks out₀ l₀ out l = (l ≤ 8) × Made (λ m. pick (eqb (getD words m 0 / 2 ^ t % 2) 1) stop (getD marks m 0)) 0 l out₀ out
 
 abbrev μ-loop : tie.MeasureT-loop
 μ-loop t stop words marks out₀ l₀ out l = 8 - l
 
 loop-holds : tie.Need-loop-holds Inv-loop μ-loop
-loop-holds c = (search needs, written-none _ 0 0 _ (search needs))
+loop-holds c = (omega arith, made-none (omega arith))
 
 mul-later : tie.Need-mul-later Inv-loop μ-loop
 mul-later c = omega arith
@@ -51,13 +51,10 @@ loop-less : tie.Need-loop-less Inv-loop μ-loop
 loop-less c = omega arith
 
 loop-again : tie.Need-loop-again Inv-loop μ-loop
-loop-again c = (omega arith, written-more _ 0 _ _ _ _ (search needs) (omega arith) (c .later .ensures) (c .before .before .loop .inv .1))
+loop-again c = (omega arith, made-more (c .before .before .loop .inv .1) (omega arith) (omega arith) (c .later .ensures))
 
 returns : tie.Need-returns Inv-loop μ-loop
-returns c =
-    let a = c .before .before .args in
-    let e : c .before .loop .l ≡ 8 = omega arith in
-    written-all (λ (m : ℕ). pick (eqb (getD (a .t1) m 0 / 2 ^ a .t % 2) 1) (a .stop) (getD (a .t4) m 0)) 8 _ (c .before .loop .out) refl (subst (λ (k : ℕ). Written (λ (m : ℕ). pick (eqb (getD (a .t1) m 0 / 2 ^ a .t % 2) 1) (a .stop) (getD (a .t4) m 0)) 0 k _ (c .before .loop .out)) e (c .before .loop .inv .1))
+returns c = made-all (made-to (c .before .loop .inv .1) (omega arith)) refl
 
 pub mark-spec : {M : Type 1} → statement M
 mark-spec =

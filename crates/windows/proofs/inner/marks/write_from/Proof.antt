@@ -17,7 +17,7 @@ same-length c = search needs
 returns : tie.Need-returns
 returns c =
     let a = c .before .before .before .before .before .before .args in
-    marks-place (a .j) (a .skip) (a .marks) (a .out .now) _ (omega arith) (c .before .before .write-marks .ensures)
+    marks-place (a .j) (a .skip) (a .marks) (c .before .before .write-marks .ensures) (omega arith)
 
 returns-2 : tie.Need-returns-2
 returns-2 c = search needs

@@ -41,9 +41,12 @@ loop-less c = omega arith
 
 loop-again : tie.Need-loop-again Inv-loop μ-loop
 loop-again c =
-    let o = c .before .before .before .before .before .before in
-    let a = c .before .before .before .before .before .before .before .before .args in
-    (omega arith, c .before .before .write-from .ensures .long ∙ o .loop .inv .1, turns-more (a .k) (a .skip) (a .j) (o .loop .t) (a .words) (a .marks) (o .loop .now) (c .before .before .before .before .mark .result) (a .out .now) (o .loop .out) _ (omega arith) (c .before .before .before .before .mark .ensures) (c .before .before .write-from .ensures) (o .loop .inv .2))
+    let f = c .before .before in
+    let m = f .before .before in
+    let l = m .before .before .loop in
+    let a = m .before .before .before .before .args in
+    let next = turns-more (a .k) (a .skip) (a .j) (l .t) (a .words) (l .inv .2) (omega arith) (m .mark .ensures) (f .write-from .ensures) in
+    (omega arith, f .write-from .ensures .long ∙ l .inv .1, next)
 
 same-length : tie.Need-same-length Inv-loop μ-loop
 same-length c = c .before .loop .inv .1

@@ -1,30 +1,43 @@
 -- The step's tests in their order; then the lanes that enter and leave give the answers and the next state. Assumes nothing.
+use mathlib.Core.Bool.{Bool}
 use mathlib.Core.List.{List}
 use mathlib.Core.Path.{_≡_, sym, ap, ap₂, _∙_, subst}
-use Prim.Native.Nat.{ℕ, _+_, _-_, _<_, _≤_}
+use Prim.Native.Nat.{ℕ, _+_, _-_, _^_, _<_, _≤_}
 use native.Mathlib.Nat.{lt-of-lt-of-le}
 use native.Mathlib.Omega.{arith}
+use borrow.Author.Needs.{needs}
 use lib.Dec.{lit≤}
 use lib.ListN.{length, getD}
 use Rattle.codes.specs.Codes.{chars}
-use Rattle.codes.specs.declared.refusals.Refusal.the-variants.{BadStream}
 use Rattle.codes.proofs.CharLaws.{chars-fit}
 use Rattle.codes.proofs.WidthLaws.{width-1}
-use Rattle.windows.specs.Answers.{running}
 use Rattle.lanes.specs.Lanes.{lane, lanes, steps}
-use Rattle.windows.specs.Windows.{anyLane}
 use Rattle.lanes.proofs.LaneLaws.{Sized, stream-sizes}
+use Rattle.windows.specs.Answers.{running}
+use Rattle.windows.specs.Windows.{Running, anyLane, badState}
 use Rattle.windows.proofs.RunLaws.{Windowed, window-open, badLane, lanes-small, bad-is, answers-are, state-is, sound, run-refused, run-done, run-past, run-bad, run-right}
-use borrow.Author.Needs.{needs}
 use Rattle.windows.proofs.inner.running.run.Statement.{statement}
 use Rattle.windows.proofs.inner.running.run.Tie as tie
 
-module _ (c : tie.Start) where
-  opened : Windowed (c .args .bytes .now) (c .args .offset .0) (c .args .len .0) (c .args .context .0) (c .args .k .0)
-  opened = window-open (c .args .bytes .now) (c .args .offset .0) (c .args .len .0) (c .args .context .0) (c .args .k .0) (c .pre)
+-- the flags, the lanes' length, and the state
+module _ (s : tie.Start) where
+  abbrev cs : List ℕ
+  cs = chars 1 (s .args .bytes .now) (s .args .offset .0) (s .args .len .0)
 
-  sized : Sized 1 (c .args .len .0) (c .args .context .0) 1
-  sized = stream-sizes width-1 (length (c .args .bytes .now)) (c .args .offset .0) (c .args .len .0) (c .args .context .0) 1 (opened .view) (opened .shape)
+  abbrev n : ℕ
+  n = lane 1 (s .args .len .0) (s .args .context .0) 1
+
+  abbrev k : ℕ
+  k = s .args .k .0
+
+  abbrev state : Running
+  state = running (s .args .state)
+
+  opened : Windowed (s .args .bytes .now) (s .args .offset .0) (s .args .len .0) (s .args .context .0) k
+  opened = window-open (s .args .bytes .now) (s .args .offset .0) (s .args .len .0) (s .args .context .0) k (s .pre)
+
+  sized : Sized 1 (s .args .len .0) (s .args .context .0) 1
+  sized = stream-sizes width-1 (length (s .args .bytes .now)) (s .args .offset .0) (s .args .len .0) (s .args .context .0) 1 (opened .view) (opened .shape)
 
 plan-of-requires : tie.Need-plan-of-requires
 plan-of-requires c κs = (width-1, opened (c .before) .shape)
@@ -34,11 +47,11 @@ refused-requires c κs = search needs
 
 returns : tie.Need-returns
 returns c =
-    let s = c .before .before .before .before .before .before in
-    let x = c .refused .ensures in
-    let e = run-past (s .args .bytes .now) (s .args .offset .0) (s .args .len .0) (s .args .context .0) (s .args .k .0) (running (s .args .state)) (s .pre) (omega (arith, c .before .before .before .before .plan-of .ensures .steps)) in
-    let r = run-refused (s .args .bytes .now) (s .args .offset .0) (s .args .len .0) (s .args .context .0) (s .args .k .0) (running (s .args .state)) BadStream e in
-    (x .0 ∙ sym e, (x .1 ∙ sym (r .0), ap₂ (λ (y : List ℕ) (j : ℕ). record { counts = y; at = j }) (x .2) (x .3) ∙ sym (r .1)))
+    let p = c .before .before .before .before in
+    let s = p .before .before in
+    let a = s .args in
+    let e = run-past (a .bytes .now) (a .offset .0) (a .len .0) (a .context .0) (k s) (state s) (s .pre) (omega (arith, p .plan-of .ensures .steps)) in
+    run-refused (a .bytes .now) (a .offset .0) (a .len .0) (a .context .0) (k s) (state s) e (c .refused .ensures)
 
 count-requires : tie.Need-count-requires
 count-requires c κs = search needs
@@ -52,57 +65,87 @@ count-requires-2 c κs = search needs
 count-requires-3 : tie.Need-count-requires-3
 count-requires-3 c κs = search needs
 
+-- the lanes are those of the plan
+module _ (c : tie.After-count3) where
+  abbrev p : tie.After-plan-of
+  p = c .before .before .before .before .before .before
+
+  abbrev s : tie.Start
+  s = p .before .before
+
+  few : (p .plan-of .result .lane ≤ 2 ^ 29) × (p .plan-of .result .steps ≤ 2 ^ 32)
+  few = (omega (arith, sized s .lane-few, p .plan-of .ensures .lane), omega (arith, sized s .steps-few, p .plan-of .ensures .steps))
+
+  planned : (e : ℕ) → lanes (chars 1 (s .args .bytes .now) (c .before .count2 .result) (c .count3 .result)) (p .plan-of .result .lane) e (state s .at) ≡ lanes (cs s) (n s) e (state s .at)
+  planned e =
+      ap₂ (λ (x : List ℕ) (m : ℕ). lanes x m e (state s .at)) (ap₂ (chars 1 (s .args .bytes .now)) (c .before .count2 .ensures) (c .count3 .ensures)) (p .plan-of .ensures .lane)
+
 lanes-at-requires : tie.Need-lanes-at-requires
-lanes-at-requires c κs =
-    let s = c .before .before .before .before .before .before .before .before in
-    (width-1, (rw (c .before .count2 .ensures, c .count3 .ensures) (opened s .view), (omega (arith, sized s .lane-few, c .before .before .before .before .before .before .plan-of .ensures .lane), omega (arith, sized s .steps-few, c .before .before .before .before .before .before .plan-of .ensures .steps))))
+lanes-at-requires c κs = (width-1, (rw (c .before .count2 .ensures, c .count3 .ensures) (opened (s c) .view), (few c .0, omega (arith, few c .1))))
 
 lanes-at-requires-2 : tie.Need-lanes-at-requires-2
 lanes-at-requires-2 c κs =
-    let s = c .before .before .before .before .before .before .before .before .before in
-    (width-1, (rw (c .before .before .count2 .ensures, c .before .count3 .ensures) (opened s .view), (omega (arith, sized s .lane-few, c .before .before .before .before .before .before .before .plan-of .ensures .lane), omega (arith, sized s .steps-few, c .before .before .before .before .before .before .before .plan-of .ensures .steps))))
+    let d = c .before in
+    (width-1, (rw (d .before .count2 .ensures, d .count3 .ensures) (opened (s d) .view), (few d .0, omega (arith, few d .1))))
 
 module _ (c : tie.After-lanes-at2) where
-  enter-is : c .before .lanes-at .result ≡ lanes (chars 1 (c .before .before .before .before .before .before .before .before .before .before .args .bytes .now) (c .before .before .before .before .before .before .before .before .before .before .args .offset .0) (c .before .before .before .before .before .before .before .before .before .before .args .len .0)) (lane 1 (c .before .before .before .before .before .before .before .before .before .before .args .len .0) (c .before .before .before .before .before .before .before .before .before .before .args .context .0) 1) 0 (c .before .before .before .before .before .before .before .before .before .before .args .state .step)
-  enter-is = c .before .lanes-at .ensures ∙ rw (c .before .before .before .count2 .ensures, c .before .before .count3 .ensures, c .before .before .before .before .before .before .before .before .plan-of .ensures .lane)
+  abbrev d : tie.After-count3
+  d = c .before .before
 
-  leave-is : c .lanes-at2 .result ≡ lanes (chars 1 (c .before .before .before .before .before .before .before .before .before .before .args .bytes .now) (c .before .before .before .before .before .before .before .before .before .before .args .offset .0) (c .before .before .before .before .before .before .before .before .before .before .args .len .0)) (lane 1 (c .before .before .before .before .before .before .before .before .before .before .args .len .0) (c .before .before .before .before .before .before .before .before .before .before .args .context .0) 1) (c .before .before .before .before .before .before .before .before .before .before .args .k .0 - 1) (c .before .before .before .before .before .before .before .before .before .before .args .state .step)
-  leave-is = c .lanes-at2 .ensures ∙ rw (c .before .before .before .before .count .ensures, c .before .before .before .count2 .ensures, c .before .before .count3 .ensures, c .before .before .before .before .before .before .before .before .plan-of .ensures .lane)
+  abbrev enter : List ℕ
+  enter = c .before .lanes-at .result
 
-  small : (l : ℕ) → getD (c .before .lanes-at .result) l 0 < 16
+  abbrev leave : List ℕ
+  leave = c .lanes-at2 .result
+
+  enter-is : enter ≡ lanes (cs (s d)) (n (s d)) 0 (state (s d) .at)
+  enter-is = c .before .lanes-at .ensures ∙ planned d 0
+
+  leave-is : leave ≡ lanes (cs (s d)) (n (s d)) (k (s d) - 1) (state (s d) .at)
+  leave-is = c .lanes-at2 .ensures ∙ planned d _ ∙ ap (λ (m : ℕ). lanes (cs (s d)) (n (s d)) (m - 1) (state (s d) .at)) (d .before .before .count .ensures)
+
+  small : (l : ℕ) → getD enter l 0 < 16
   small l =
-      let s = c .before .before .before .before .before .before .before .before .before .before in
-      subst (λ (x : List ℕ). getD x l 0 < 16) (sym enter-is) (lt-of-lt-of-le (lanes-small 1 (chars 1 (s .args .bytes .now) (s .args .offset .0) (s .args .len .0)) (chars-fit 1 (s .args .bytes .now) (s .args .offset .0) (s .args .len .0)) (lane 1 (s .args .len .0) (s .args .context .0) 1) 0 (s .args .state .step) l) (lit≤ tt))
+      let a = s d .args in
+      let fit = chars-fit 1 (a .bytes .now) (a .offset .0) (a .len .0) in
+      subst (λ (x : List ℕ). getD x l 0 < 16) (sym enter-is) (lt-of-lt-of-le (lanes-small 1 (cs (s d)) fit (n (s d)) 0 (state (s d) .at) l) (lit≤ tt))
 
-  within : c .before .before .before .before .before .before .before .before .before .before .args .state .step < steps 1 (c .before .before .before .before .before .before .before .before .before .before .args .len .0) (c .before .before .before .before .before .before .before .before .before .before .args .context .0) 1
-  within = omega (arith, c .before .before .before .before .before .if1 .left, c .before .before .before .before .before .before .before .before .plan-of .ensures .steps)
+  within : state (s d) .at < steps 1 (s d .args .len .0) (s d .args .context .0) 1
+  within = omega (arith, d .before .before .before .if1 .left, p d .plan-of .ensures .steps)
 
 bad-counts-requires : tie.Need-bad-counts-requires
-bad-counts-requires c κs =
-    (omega (arith, opened (c .before .before .before .before .before .before .before .before .before .before) .high, c .before .before .before .before .count .ensures), small c)
+bad-counts-requires c κs = (omega (arith, opened (s (d c)) .high, d c .before .before .count .ensures), small c)
 
-bad-as : (c : tie.After-bad-counts) → c .bad-counts .result ≡ anyLane 8 (badLane (c .before .before .before .before .before .before .before .before .before .before .before .args .k .0 - 1) (c .before .before .before .before .before .before .before .before .before .before .before .args .state .counts) (c .before .before .lanes-at .result) (c .before .lanes-at2 .result))
-bad-as c =
-    let s = c .before .before .before .before .before .before .before .before .before .before .before in
-    c .bad-counts .ensures ∙ ap (λ (m : ℕ). anyLane 8 (badLane (m - 1) (s .args .state .counts) (c .before .before .lanes-at .result) (c .before .lanes-at2 .result))) (c .before .before .before .before .before .count .ensures)
+-- whether the state is bad
+module _ (c : tie.After-bad-counts) where
+  abbrev t : tie.After-lanes-at2
+  t = c .before
+
+  abbrev o : tie.Start
+  o = s (d t)
+
+  bad-as : c .bad-counts .result ≡ anyLane 8 (badLane (k o - 1) (state o .counts) (enter t) (leave t))
+  bad-as = c .bad-counts .ensures ∙ ap (λ (m : ℕ). anyLane 8 (badLane (m - 1) (state o .counts) (enter t) (leave t))) (d t .before .before .count .ensures)
+
+  judged : {b : Bool} → c .bad-counts .result ≡ b → badState (cs o) (n o) (k o) (state o) .0 ≡ b
+  judged q = sym (bad-is (cs o) (n o) (k o) (state o) (enter t) (leave t) (enter-is t) (leave-is t)) ∙ sym bad-as ∙ q
 
 refused-requires-2 : tie.Need-refused-requires-2
 refused-requires-2 c κs = search needs
 
 returns-2 : tie.Need-returns-2
 returns-2 c =
-    let p = c .before .before .before in
-    let s = c .before .before .before .before .before .before .before .before .before .before .before .before .before in
-    let x = c .refused2 .ensures in
-    let e = run-bad (s .args .bytes .now) (s .args .offset .0) (s .args .len .0) (s .args .context .0) (s .args .k .0) (running (s .args .state)) (s .pre) (within p) (sym (bad-is (chars 1 (s .args .bytes .now) (s .args .offset .0) (s .args .len .0)) (lane 1 (s .args .len .0) (s .args .context .0) 1) (s .args .k .0) (running (s .args .state)) (p .before .lanes-at .result) (p .lanes-at2 .result) (enter-is p) (leave-is p)) ∙ sym (bad-as (c .before .before)) ∙ c .before .if2 .taken) in
-    let r = run-refused (s .args .bytes .now) (s .args .offset .0) (s .args .len .0) (s .args .context .0) (s .args .k .0) (running (s .args .state)) BadStream e in
-    (x .0 ∙ sym e, (x .1 ∙ sym (r .0), ap₂ (λ (y : List ℕ) (j : ℕ). record { counts = y; at = j }) (x .2) (x .3) ∙ sym (r .1)))
+    let b = c .before .before in
+    let a = o b .args in
+    let e = run-bad (a .bytes .now) (a .offset .0) (a .len .0) (a .context .0) (k (o b)) (state (o b)) (o b .pre) (within (t b)) (judged b (c .before .if2 .taken)) in
+    run-refused (a .bytes .now) (a .offset .0) (a .len .0) (a .context .0) (k (o b)) (state (o b)) e (c .refused2 .ensures)
 
-calm : (c : tie.Else2) (l : ℕ) → l < 8 → (getD (c .before .before .before .before .before .before .before .before .before .before .before .before .args .state .counts) l 0 ≤ 95) × (getD (c .before .before .lanes-at2 .result) l 0 ≤ getD (c .before .before .before .before .before .before .before .before .before .before .before .before .args .state .counts) l 0 + getD (c .before .before .before .lanes-at .result) l 0)
+calm : (c : tie.Else2) (l : ℕ) → l < 8
+    → (getD (state (o (c .before)) .counts) l 0 ≤ 95) × (getD (leave (c .before .before)) l 0 ≤ getD (state (o (c .before)) .counts) l 0 + getD (enter (c .before .before)) l 0)
 calm c l h =
-    let p = c .before .before in
-    let s = c .before .before .before .before .before .before .before .before .before .before .before .before in
-    sound (chars 1 (s .args .bytes .now) (s .args .offset .0) (s .args .len .0)) (lane 1 (s .args .len .0) (s .args .context .0) 1) (s .args .k .0) (running (s .args .state)) (p .before .lanes-at .result) (p .lanes-at2 .result) (enter-is p) (leave-is p) (opened s .high) (sym (bad-as (c .before)) ∙ c .if2 .left) l h
+    let b = c .before in
+    let x = t b in
+    sound (cs (o b)) (n (o b)) (k (o b)) (state (o b)) (enter x) (leave x) (enter-is x) (leave-is x) (opened (o b) .high) (sym (bad-as b) ∙ c .if2 .left) l h
 
 answers-of-requires : tie.Need-answers-of-requires
 answers-of-requires c κs = λ l h. (calm c l h .0, small (c .before .before) l)
@@ -115,11 +158,16 @@ add-t20 c = search needs
 
 returns-3 : tie.Need-returns-3
 returns-3 c =
-    let p = c .before .before .before .before in
-    let s = c .before .before .before .before .before .before .before .before .before .before .before .before .before .before in
-    let e = run-right (s .args .bytes .now) (s .args .offset .0) (s .args .len .0) (s .args .context .0) (s .args .k .0) (running (s .args .state)) (s .pre) (within p) (sym (bad-is (chars 1 (s .args .bytes .now) (s .args .offset .0) (s .args .len .0)) (lane 1 (s .args .len .0) (s .args .context .0) 1) (s .args .k .0) (running (s .args .state)) (p .before .lanes-at .result) (p .lanes-at2 .result) (enter-is p) (leave-is p)) ∙ sym (bad-as (c .before .before .before)) ∙ c .before .before .if2 .left) in
-    let r = run-done (s .args .bytes .now) (s .args .offset .0) (s .args .len .0) (s .args .context .0) (s .args .k .0) (running (s .args .state)) e in
-    (sym e, (c .before .answers-of .ensures ∙ answers-are (chars 1 (s .args .bytes .now) (s .args .offset .0) (s .args .len .0)) (lane 1 (s .args .len .0) (s .args .context .0) 1) (s .args .k .0) (running (s .args .state)) (p .before .lanes-at .result) (p .lanes-at2 .result) (enter-is p) (leave-is p) ∙ sym (r .0), ap (λ (y : List ℕ). record { counts = y; at = s .args .state .step + 1 }) (c .counts-after .ensures) ∙ state-is (chars 1 (s .args .bytes .now) (s .args .offset .0) (s .args .len .0)) (lane 1 (s .args .len .0) (s .args .context .0) 1) (s .args .k .0) (running (s .args .state)) (p .before .lanes-at .result) (p .lanes-at2 .result) (enter-is p) (leave-is p) ∙ sym (r .1)))
+    let f = c .before .before in
+    let b = f .before in
+    let x = t b in
+    let s = o b in
+    let a = s .args in
+    let e = run-right (a .bytes .now) (a .offset .0) (a .len .0) (a .context .0) (k s) (state s) (s .pre) (within x) (judged b (f .if2 .left)) in
+    let r = run-done (a .bytes .now) (a .offset .0) (a .len .0) (a .context .0) (k s) (state s) e in
+    let answers = answers-are (cs s) (n s) (k s) (state s) (enter x) (leave x) (enter-is x) (leave-is x) in
+    let next = state-is (cs s) (n s) (k s) (state s) (enter x) (leave x) (enter-is x) (leave-is x) in
+    (sym e, (c .before .answers-of .ensures ∙ answers ∙ sym (r .0), ap (λ (y : List ℕ). record { counts = y; at = a .state .step + 1 }) (c .counts-after .ensures) ∙ next ∙ sym (r .1)))
 
 pub run-spec : {M : Type 1} → statement M
 run-spec =

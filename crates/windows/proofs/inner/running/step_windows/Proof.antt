@@ -1,7 +1,5 @@
 -- The windows' tests, and then the step. Assumes nothing.
-use mathlib.Core.List.{List}
-use mathlib.Core.Path.{sym, ap₂, _∙_}
-use Prim.Native.Nat.{ℕ}
+use mathlib.Core.Path.{sym, _∙_}
 use Rattle.windows.specs.Answers.{running}
 use Rattle.windows.proofs.RunLaws.{run-refused, run-shut}
 use borrow.Author.Needs.{needs}
@@ -25,12 +23,11 @@ run-requires c κs = sym (c .before .before .window-outcome .ensures) ∙ c .enu
 
 returns : tie.Need-returns
 returns c =
-    let s = c .before .before .before .before .before .before in
+    let w = c .before .before .before .before in
+    let a = w .before .before .args in
     let g = c .before .before .refusal .given in
-    let x = c .refused .ensures in
-    let e = run-shut (s .args .bytes .now) (s .args .offset .0) (s .args .len .0) (s .args .context .0) (s .args .k .0) (running (s .args .state)) (g .0 .0) (sym (c .before .before .before .before .window-outcome .ensures) ∙ g .1) in
-    let r = run-refused (s .args .bytes .now) (s .args .offset .0) (s .args .len .0) (s .args .context .0) (s .args .k .0) (running (s .args .state)) (g .0 .0) e in
-    (x .0 ∙ sym e, (x .1 ∙ sym (r .0), ap₂ (λ (y : List ℕ) (j : ℕ). record { counts = y; at = j }) (x .2) (x .3) ∙ sym (r .1)))
+    let e = run-shut (a .bytes .now) (a .offset .0) (a .len .0) (a .context .0) (a .k .0) (running (a .state)) (g .0 .0) (sym (w .window-outcome .ensures) ∙ g .1) in
+    run-refused (a .bytes .now) (a .offset .0) (a .len .0) (a .context .0) (a .k .0) (running (a .state)) e (c .refused .ensures)
 
 returns-2 : tie.Need-returns-2
 returns-2 c = search needs

@@ -19,27 +19,34 @@ enum-known-steps c = search needs
 window-one-requires : tie.Need-window-one-requires
 window-one-requires c κs =
     let f = c .before .before .before .before in
-    let s = c .before .before .before .before .before .before .before in
+    let a = f .before .before .before .args in
+    let w = f .windows-answer in
     let x = c .before .before .steps .given in
-    let r = windows-open (s .args .bytes .now) (s .args .offset .0) (s .args .len .0) (s .args .context .0) (s .args .k .0) (s .args .skip) (length (s .args .out .now)) (windows-is-done (s .args .bytes .now) (s .args .offset .0) (s .args .len .0) (s .args .context .0) (s .args .k .0) (s .args .skip) (s .args .out .now) (f .windows-answer .result) (f .windows-answer .ensures) (x .0 .0) (x .0 .1 .0) (x .1)) in
+    let d = windows-is-done (a .bytes .now) (a .offset .0) (a .len .0) (a .context .0) (a .k .0) (a .skip) (a .out .now) (w .result) (w .ensures) (x .0 .0) (x .0 .1 .0) (x .1) in
+    let r = windows-open (a .bytes .now) (a .offset .0) (a .len .0) (a .context .0) (a .k .0) (a .skip) (length (a .out .now)) d in
     (r .0, r .2)
 
 returns : tie.Need-returns
 returns c =
     let f = c .before .before .before in
-    let s = c .before .before .before .before .before .before in
+    let a = f .before .before .before .args in
+    let w = f .windows-answer in
     let x = c .before .refusal .given in
-    (sym (ap filledSays (x .1)) ∙ f .windows-answer .ensures, windows-after-refused (s .args .bytes .now) (s .args .offset .0) (s .args .len .0) (s .args .context .0) (s .args .k .0) (s .args .skip) (s .args .out .now) (f .windows-answer .result) (f .windows-answer .ensures) (x .0 .0) (x .1))
+    let e = windows-after-refused (a .bytes .now) (a .offset .0) (a .len .0) (a .context .0) (a .k .0) (a .skip) (a .out .now) (w .result) (w .ensures) (x .0 .0) (x .1) in
+    (sym (ap filledSays (x .1)) ∙ w .ensures, e)
 
 same-length : tie.Need-same-length
 same-length c = search needs
 
 returns-2 : tie.Need-returns-2
 returns-2 c =
-    let f = c .before .before .before .before .before .before .before in
-    let s = c .before .before .before .before .before .before .before .before .before .before in
-    let x = c .before .before .before .before .before .steps .given in
-    (sym (ap filledSays (x .1)) ∙ f .windows-answer .ensures, c .before .before .window-one .ensures ∙ windows-after-done (s .args .bytes .now) (s .args .offset .0) (s .args .len .0) (s .args .context .0) (s .args .k .0) (s .args .skip) (s .args .out .now) (f .windows-answer .result) (f .windows-answer .ensures) (x .0 .0) (x .0 .1 .0) (x .1))
+    let o = c .before .before .before .before .before in
+    let f = o .before .before in
+    let a = f .before .before .before .args in
+    let w = f .windows-answer in
+    let x = o .steps .given in
+    let e = windows-after-done (a .bytes .now) (a .offset .0) (a .len .0) (a .context .0) (a .k .0) (a .skip) (a .out .now) (w .result) (w .ensures) (x .0 .0) (x .0 .1 .0) (x .1) in
+    (sym (ap filledSays (x .1)) ∙ w .ensures, c .before .before .window-one .ensures ∙ e)
 
 pub fill-windows-spec : {M : Type 1} → statement M
 fill-windows-spec =

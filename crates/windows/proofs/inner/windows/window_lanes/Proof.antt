@@ -1,30 +1,30 @@
 -- The invariant: the steps below j are marked, and written from `skip` on. Assumes nothing.
-use mathlib.Core.Path.{_≡_, refl, sym, subst}
-use Prim.Native.Nat.{ℕ, _+_, _-_, _*_, _≤_, _<_}
-use native.Mathlib.Nat.{min-le-left, min-le-right}
+use mathlib.Core.Path.{_≡_, refl, sym, ap, subst}
+use Prim.Native.Nat.{ℕ, _-_, _*_, _≤_, _<_}
+use native.Mathlib.Nat.{min-le-left, min-le-right, le-min}
 use native.Mathlib.Omega.{arith}
 use lib.Dec.{lit<}
 use Rattle.codes.specs.Codes.{chars, tab}
+use Rattle.codes.specs.Made.{Made}
+use Rattle.codes.proofs.MadeLaws.{made-none, made-on, made-to, made-is}
 use Rattle.codes.proofs.WidthLaws.{width-1}
-use Rattle.windows.specs.Marks.{untilAt, windowEntry}
-use Rattle.windows.specs.Windows.{windowsFilled}
-use Rattle.lanes.specs.Written.{Written}
+use Rattle.windows.specs.Marks.{untilAt}
+use Rattle.windows.specs.Windows.{windowEntry, windowsFilled}
 use Rattle.windows.proofs.WindowLaws.{marks-none}
-use Rattle.lanes.proofs.WriteLaws.{written-none, written-join, written-is, min-some}
 use borrow.Author.Needs.{needs}
 use Rattle.windows.proofs.inner.windows.window_lanes.Statement.{statement}
 use Rattle.windows.proofs.inner.windows.window_lanes.Tie as tie
 
 abbrev Inv-loop : tie.InvT-loop
 Inv-loop bytes offset len n k skip steps out₀ marks₀ j₀ out marks j =
-    (j ≤ steps) × (marks ≡ tab 8 (untilAt (chars 1 bytes offset len) n k j)) × Written (windowEntry (chars 1 bytes offset len) n k skip) 0 (8 * (j - skip)) out₀ out
+    (j ≤ steps) × (marks ≡ tab 8 (untilAt (chars 1 bytes offset len) n k j)) × Made (windowEntry (chars 1 bytes offset len) n k skip) 0 (8 * (j - skip)) out₀ out
 
 abbrev μ-loop : tie.MeasureT-loop
 μ-loop bytes offset len n k skip steps out₀ marks₀ j₀ out marks j = steps - j
 
 loop-holds : tie.Need-loop-holds Inv-loop μ-loop
 loop-holds c =
-    let a = c .before .before .args in (search needs, marks-none (chars 1 (a .bytes .now) (a .offset) (a .len)) (a .n) (a .k), written-none _ 0 _ _ (omega arith))
+    let a = c .before .before .args in (omega arith, marks-none (chars 1 (a .bytes .now) (a .offset) (a .len)) (a .n) (a .k), made-none (omega arith))
 
 lane-words-requires : tie.Need-lane-words-requires Inv-loop μ-loop
 lane-words-requires c κs = let s = c .before .before .before .before in (width-1, (s .pre .0, (refl, s .pre .1 .0 .0, omega arith)))
@@ -35,33 +35,45 @@ sub-smaller c = omega arith
 smaller-requires : tie.Need-smaller-requires Inv-loop μ-loop
 smaller-requires c κs = search needs
 
+-- how many steps the turn has
+module _ (c : tie.After-smaller Inv-loop μ-loop) where
+  abbrev l : tie.At-loop Inv-loop μ-loop
+  l = c .before .before .before
+
+  abbrev s : tie.Start Inv-loop μ-loop
+  s = l .before .before .before
+
+  abbrev left : ℕ
+  left = s .args .steps - l .loop .j
+
+  count-most : c .smaller .result ≤ 64
+  count-most = omega (arith, c .smaller .ensures, min-le-left 64 left)
+
+  count-right : c .smaller .result ≤ left
+  count-right = omega (arith, c .smaller .ensures, min-le-right 64 left)
+
+  forward : 0 < c .smaller .result
+  forward = subst (λ (x : ℕ). 0 < x) (sym (c .smaller .ensures)) (le-min {a = 64} {b = left} (lit< tt) (omega arith))
+
 write-windows-requires : tie.Need-write-windows-requires Inv-loop μ-loop
 write-windows-requires c κs =
-    let s = c .before .before .before .before .before .before .before in
-    let m = c .before .smaller .ensures in
-    ((omega (arith, m, min-le-left 64 (s .args .steps - c .before .before .before .before .loop .j)), omega arith, s .pre .1 .0 .1), omega (arith, m, min-le-right 64 (s .args .steps - c .before .before .before .before .loop .j), c .before .before .before .before .loop .inv .2 .long, s .pre .1 .1))
-
-forward : (c : tie.After-slice-known2 Inv-loop μ-loop) → (0 < c .before .before .before .before .smaller .result) × (c .before .before .before .before .smaller .result ≤ 64)
-forward c =
-    let n = c .before .before .before .before .before .before .before .before .before .before .args .steps - c .before .before .before .before .before .before .before .loop .j in
-    (subst (λ (x : ℕ). 0 < x) (sym (c .before .before .before .before .smaller .ensures)) (min-some 64 n (lit< tt) (omega arith)), subst (λ (x : ℕ). x ≤ 64) (sym (c .before .before .before .before .smaller .ensures)) (min-le-left 64 n))
+    let k = c .before in
+    let h = s k .pre .1 in
+    ((count-most k, omega arith, h .0 .1), omega (arith, count-right k, l k .loop .inv .2 .long, h .1))
 
 add-j : tie.Need-add-j Inv-loop μ-loop
-add-j c = omega (arith, forward c)
+add-j c = omega (arith, count-most (c .before .before .before .before))
 
 loop-less : tie.Need-loop-less Inv-loop μ-loop
-loop-less c = omega (arith, forward c)
+loop-less c = omega (arith, forward (c .before .before .before .before))
 
 loop-again : tie.Need-loop-again Inv-loop μ-loop
 loop-again c =
-    let o = c .before .before .before .before .before .before .before in
-    let a = c .before .before .before .before .before .before .before .before .before .before .args in
-    let m = c .before .before .before .before .smaller in
-    let p = c .before .before .write-windows .ensures (chars 1 (a .bytes .now) (a .offset) (a .len)) (a .n) (c .before .before .before .before .before .lane-words .ensures) (o .loop .inv .1) in (
-      omega (arith, m .ensures, min-le-right 64 (a .steps - o .loop .j)),
-      p .0,
-      written-join (windowEntry (chars 1 (a .bytes .now) (a .offset) (a .len)) (a .n) (a .k) (a .skip)) 0 (8 * (o .loop .j - a .skip)) (8 * (o .loop .j + m .result - a .skip)) (a .out .now) (o .loop .out) _ (omega arith) (omega arith) (o .loop .inv .2) (p .1),
-    )
+    let k = c .before .before .before .before in
+    let o = l k .loop in
+    let a = s k .args in
+    let p = c .before .before .write-windows .ensures (chars 1 (a .bytes .now) (a .offset) (a .len)) (a .n) (k .before .lane-words .ensures) (o .inv .1) in
+    (omega (arith, count-right k), p .0, made-on (o .inv .2) (p .1) (omega arith) (omega arith))
 
 same-length : tie.Need-same-length Inv-loop μ-loop
 same-length c = c .before .loop .inv .2 .long
@@ -71,8 +83,7 @@ unfolding windowsFilled
 returns c =
     let a = c .before .before .before .before .args in
     let e : c .before .loop .j ≡ a .steps = omega arith in
-    written-is (windowEntry (chars 1 (a .bytes .now) (a .offset) (a .len)) (a .n) (a .k) (a .skip)) (8 * (a .steps - a .skip)) (a .out .now) (c .before .loop .out) (c .before .before .before .before .pre .1 .1)
-    (subst (λ (i : ℕ). Written (windowEntry (chars 1 (a .bytes .now) (a .offset) (a .len)) (a .n) (a .k) (a .skip)) 0 (8 * (i - a .skip)) (a .out .now) (c .before .loop .out)) e (c .before .loop .inv .2))
+    made-is (made-to (c .before .loop .inv .2) (ap (λ (j : ℕ). 8 * (j - a .skip)) e)) (c .before .before .before .before .pre .1 .1)
 
 pub window-lanes-spec : {M : Type 1} → statement M
 window-lanes-spec =

@@ -30,18 +30,21 @@ count-requires-3 c κs = search needs
 
 window-lanes-requires : tie.Need-window-lanes-requires
 window-lanes-requires c κs =
-    let s = c .before .before .before .before .before .before .before in
+    let o = c .before .before .before in
+    let s = o .before .before .before .before in
     let z = sized s in
-    let p = c .before .before .before .before .plan-of .ensures in
-    (rw (c .before .before .before .count .ensures, c .before .before .count2 .ensures) (opened s .view), ((omega (arith, z .lane-few, p .lane), omega (arith, opened s .high, c .before .count3 .ensures), omega (arith, z .steps-few, p .steps)), omega (arith, s .pre .1, p .steps)))
+    let p = o .before .plan-of .ensures in
+    (rw (o .count .ensures, c .before .before .count2 .ensures) (opened s .view), ((omega arith, omega (arith, opened s .high, c .before .count3 .ensures), omega arith), omega (arith, s .pre .1)))
 
 same-length : tie.Need-same-length
 same-length c = search needs
 
 returns : tie.Need-returns
 returns c =
-    let p = c .before .before .before .before .before .before .before .plan-of .ensures in
-    c .before .before .window-lanes .ensures ∙ rw (c .before .before .before .before .before .before .count .ensures, c .before .before .before .before .before .count2 .ensures, c .before .before .before .before .count3 .ensures, p .lane, p .steps)
+    let e = c .before .before .before .before in
+    let o = e .before .before in
+    let p = o .before .plan-of .ensures in
+    c .before .before .window-lanes .ensures ∙ rw (o .count .ensures, e .before .count2 .ensures, e .count3 .ensures, p .lane, p .steps)
 
 pub window-one-spec : {M : Type 1} → statement M
 window-one-spec =

@@ -1,11 +1,11 @@
 -- The windows' tests, then the skip's and the room's. Assumes nothing.
-use mathlib.Core.List.{[], _∷_}
+use mathlib.Core.List.{List, [], _∷_}
 use mathlib.Core.Path.{_≡_, sym, _∙_}
 use Prim.Native.Nat.{ℕ, _-_, _*_}
 use native.Mathlib.Omega.{arith}
 use lib.ListN.{length}
 use borrow.Author.Tests.{lt-ltb, le-ltb}
-use Rattle.codes.specs.Refusals.{first, noRoom}
+use Rattle.codes.specs.Refusals.{Test, first, noRoom}
 use Rattle.codes.specs.declared.refusals.Outcome.the-variants.{Done}
 use Rattle.codes.specs.declared.refusals.Refusal.the-variants.{BadStream, NoRoom}
 use Rattle.codes.proofs.WidthLaws.{width-1}
@@ -28,12 +28,33 @@ enum-known-refusal c = search needs
 enum-told : tie.Need-enum-told
 enum-told c = search needs
 
+-- the tests, of the windows, the skip and the room; and the answer
+module _ (s : tie.Start) where
+  abbrev tests : List Test
+  tests = windowTests (s .args .bytes .now) (s .args .offset .0) (s .args .len .0) (s .args .context .0) (s .args .k .0)
+
+  abbrev many : ℕ
+  many = steps 1 (s .args .len .0) (s .args .context .0) 1
+
+  abbrev skips : Test
+  skips = badSkip many (s .args .skip)
+
+  abbrev room : Test
+  room = noRoom (s .args .room) (8 * (many - s .args .skip))
+
+  abbrev given : ℕ × ℕ
+  given = (many - s .args .skip, padding 1 (s .args .len .0) (s .args .context .0) 1)
+
+-- the windows are not refused
 module _ (c : tie.After-enum-told) where
-  done : first (windowTests (c .before .before .before .before .args .bytes .now) (c .before .before .before .before .args .offset .0) (c .before .before .before .before .args .len .0) (c .before .before .before .before .args .context .0) (c .before .before .before .before .args .k .0)) ≡ Done
+  abbrev s : tie.Start
+  s = c .before .before .before .before
+
+  done : first (tests s) ≡ Done
   done = sym (c .before .before .window-outcome .ensures) ∙ c .enum-told .given .1
 
-  right : Windowed (c .before .before .before .before .args .bytes .now) (c .before .before .before .before .args .offset .0) (c .before .before .before .before .args .len .0) (c .before .before .before .before .args .context .0) (c .before .before .before .before .args .k .0)
-  right = window-open (c .before .before .before .before .args .bytes .now) (c .before .before .before .before .args .offset .0) (c .before .before .before .before .args .len .0) (c .before .before .before .before .args .context .0) (c .before .before .before .before .args .k .0) done
+  right : Windowed (s .args .bytes .now) (s .args .offset .0) (s .args .len .0) (s .args .context .0) (s .args .k .0)
+  right = window-open (s .args .bytes .now) (s .args .offset .0) (s .args .len .0) (s .args .context .0) (s .args .k .0) done
 
 plan-of-requires : tie.Need-plan-of-requires
 plan-of-requires c κs = (width-1, right c .shape)
@@ -42,25 +63,29 @@ returns : tie.Need-returns
 unfolding windowsAnswer windowsOutcome
 returns c =
     let p = c .before .before in
-    let s = c .before .before .before .before .before .before .before in
-    let n : ℕ = steps 1 (s .args .len .0) (s .args .context .0) 1 in
-    answer-refused (windowsOutcome (s .args .bytes .now) (s .args .offset .0) (s .args .len .0) (s .args .context .0) (s .args .k .0) (s .args .skip) (s .args .room)) BadStream (n - s .args .skip, padding 1 (s .args .len .0) (s .args .context .0) 1) (0, 0)
-    (sym (first-of-two (windowTests (s .args .bytes .now) (s .args .offset .0) (s .args .len .0) (s .args .context .0) (s .args .k .0)) (done (p .before)) (badSkip n (s .args .skip)) (noRoom (s .args .room) (8 * (n - s .args .skip))) (lt-ltb n (s .args .skip) (omega (arith, p .plan-of .ensures .steps)))))
+    let k = p .before in
+    let o = s k in
+    let e = first-of-two (tests o) (done k) (skips o) (room o) (lt-ltb (many o) (o .args .skip) (omega (arith, p .plan-of .ensures .steps))) in
+    answer-refused _ BadStream (given o) (0, 0) (sym e)
 
 mul-if2 : tie.Need-mul-if2
 mul-if2 c =
-    let t = c .before .before .before .before in
-    let a = c .before .before .before .before .before .before .before .before .args in
-    omega (arith, stream-sizes width-1 (length (a .bytes .now)) (a .offset .0) (a .len .0) (a .context .0) 1 (right t .view) (right t .shape) .steps-few, c .before .before .before .plan-of .ensures .steps)
+    let p = c .before .before .before in
+    let k = p .before in
+    let a = s k .args in
+    let z = stream-sizes width-1 (length (a .bytes .now)) (a .offset .0) (a .len .0) (a .context .0) 1 (right k .view) (right k .shape) in
+    omega (arith, z .steps-few, p .plan-of .ensures .steps)
 
 returns-2 : tie.Need-returns-2
 unfolding windowsAnswer windowsOutcome
 returns-2 c =
     let p = c .before .before .before .before in
-    let s = c .before .before .before .before .before .before .before .before .before in
-    let n : ℕ = steps 1 (s .args .len .0) (s .args .context .0) 1 in
-    answer-refused (windowsOutcome (s .args .bytes .now) (s .args .offset .0) (s .args .len .0) (s .args .context .0) (s .args .k .0) (s .args .skip) (s .args .room)) NoRoom (n - s .args .skip, padding 1 (s .args .len .0) (s .args .context .0) 1) (0, 0)
-    (sym (second-of-two (windowTests (s .args .bytes .now) (s .args .offset .0) (s .args .len .0) (s .args .context .0) (s .args .k .0)) (done (p .before)) (badSkip n (s .args .skip)) (noRoom (s .args .room) (8 * (n - s .args .skip))) (le-ltb n (s .args .skip) (omega (arith, p .plan-of .ensures .steps))) (lt-ltb (s .args .room) (8 * (n - s .args .skip)) (omega (arith, p .plan-of .ensures .steps)))))
+    let k = p .before in
+    let o = s k in
+    let q = p .plan-of .ensures .steps in
+    let h = le-ltb (many o) (o .args .skip) (omega arith) in
+    let e = second-of-two (tests o) (done k) (skips o) (room o) h (lt-ltb (o .args .room) (8 * (many o - o .args .skip)) (omega arith)) in
+    answer-refused _ NoRoom (given o) (0, 0) (sym e)
 
 new-requires : tie.Need-new-requires
 new-requires c κs = search needs
@@ -69,21 +94,20 @@ returns-3 : tie.Need-returns-3
 unfolding windowsAnswer windowsOutcome
 returns-3 c =
     let f = c .before .before .before in
-    let s = c .before .before .before .before .before in
+    let o = f .before .before in
     let x = c .before .refusal .given in
-    let n : ℕ = steps 1 (s .args .len .0) (s .args .context .0) 1 in
-    answer-refused (windowsOutcome (s .args .bytes .now) (s .args .offset .0) (s .args .len .0) (s .args .context .0) (s .args .k .0) (s .args .skip) (s .args .room)) (x .0 .0) (n - s .args .skip, padding 1 (s .args .len .0) (s .args .context .0) 1) (0, 0)
-    (sym (sym (first-refused (windowTests (s .args .bytes .now) (s .args .offset .0) (s .args .len .0) (s .args .context .0) (s .args .k .0)) (badSkip n (s .args .skip) ∷ noRoom (s .args .room) (8 * (n - s .args .skip)) ∷ []) (x .0 .0) (sym (f .window-outcome .ensures) ∙ x .1))))
+    answer-refused _ (x .0 .0) (given o) (0, 0) (first-refused (tests o) (skips o ∷ room o ∷ []) (x .0 .0) (sym (f .window-outcome .ensures) ∙ x .1))
 
 returns-4 : tie.Need-returns-4
 unfolding windowsAnswer windowsOutcome
 returns-4 c =
     let p = c .before .before .before .before .before in
-    let s = c .before .before .before .before .before .before .before .before .before .before in
-    let n : ℕ = steps 1 (s .args .len .0) (s .args .context .0) 1 in
-    answer-done (windowsOutcome (s .args .bytes .now) (s .args .offset .0) (s .args .len .0) (s .args .context .0) (s .args .k .0) (s .args .skip) (s .args .room)) (p .plan-of .result .steps - s .args .skip, c .new .result .0) (n - s .args .skip, padding 1 (s .args .len .0) (s .args .context .0) 1) (0, 0)
-    (sym (none-of-two (windowTests (s .args .bytes .now) (s .args .offset .0) (s .args .len .0) (s .args .context .0) (s .args .k .0)) (done (p .before)) (badSkip n (s .args .skip)) (noRoom (s .args .room) (8 * (n - s .args .skip))) (le-ltb n (s .args .skip) (omega (arith, p .plan-of .ensures .steps))) (le-ltb (s .args .room) (8 * (n - s .args .skip)) (omega (arith, p .plan-of .ensures .steps)))))
-    (rw (c .new .ensures, p .plan-of .ensures .steps, p .plan-of .ensures .padding))
+    let k = p .before in
+    let o = s k in
+    let q = p .plan-of .ensures .steps in
+    let h = le-ltb (many o) (o .args .skip) (omega arith) in
+    let e = none-of-two (tests o) (done k) (skips o) (room o) h (le-ltb (o .args .room) (8 * (many o - o .args .skip)) (omega arith)) in
+    answer-done _ (p .plan-of .result .steps - o .args .skip, c .new .result .0) (given o) (0, 0) (sym e) (rw (c .new .ensures, q, p .plan-of .ensures .padding))
 
 pub windows-answer-spec : {M : Type 1} → statement M
 windows-answer-spec =

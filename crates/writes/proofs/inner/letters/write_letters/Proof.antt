@@ -1,7 +1,6 @@
 -- Three runs, one behind the other. Assumes nothing.
-use Prim.Native.Nat.{ℕ, _+_, _-_, _*_, _/_}
 use native.Mathlib.Omega.{arith}
-use Rattle.writes.proofs.LetterLaws.{lettered-on}
+use Rattle.codes.proofs.MadeLaws.{made-on}
 use borrow.Author.Needs.{needs}
 use Rattle.writes.proofs.inner.letters.write_letters.Statement.{statement}
 use Rattle.writes.proofs.inner.letters.write_letters.Tie as tie
@@ -47,12 +46,9 @@ same-length-2 c = search needs
 
 returns-2 : tie.Need-returns-2
 returns-2 c =
-    let a = c .before .before .before .before .before .before .before .before .before .before .before .before .before .before .before .args in
-    let head : ℕ = (a .o + 3) / 4 * 4 - a .o in
-    let tail : ℕ = (a .o + a .n) / 4 * 4 - a .o in
-    lettered-on (a .bytes .now) (a .o) _ _ _ 0 tail (a .n) (omega arith) (omega arith)
-    (lettered-on (a .bytes .now) (a .o) _ _ _ 0 head tail (omega arith) (omega arith) (c .before .before .before .before .before .before .before .before .before .before .write-some2 .ensures) (c .before .before .before .before .before .before .write-whole .ensures))
-    (c .before .before .write-some3 .ensures)
+    let w = c .before .before .before .before .before .before in
+    let front = w .before .before .before .before .write-some2 .ensures in
+    made-on (made-on front (w .write-whole .ensures) (omega arith) (omega arith)) (c .before .before .write-some3 .ensures) (omega arith) (omega arith)
 
 pub write-letters-spec : {M : Type 1} → statement M
 write-letters-spec =

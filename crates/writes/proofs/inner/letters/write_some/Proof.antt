@@ -1,22 +1,23 @@
 -- The invariant: a run of letters up to i. Assumes nothing.
-use mathlib.Core.Path.{_≡_, subst}
-use Prim.Native.Nat.{ℕ, _-_, _≤_}
+use Prim.Native.Nat.{_-_, _≤_}
 use native.Mathlib.Omega.{arith}
 use borrow.Author.Needs.{needs}
+use Rattle.codes.specs.Made.{Made}
+use Rattle.codes.proofs.MadeLaws.{made-none, made-more, made-to}
 use Rattle.codes.proofs.WidthLaws.{width-2}
-use Rattle.writes.specs.Letters.{Lettered}
-use Rattle.writes.proofs.LetterLaws.{lettered-none, lettered-more, letter-at}
+use Rattle.writes.specs.Writes.{letterAt}
+use Rattle.writes.proofs.LetterLaws.{letter-at}
 use Rattle.writes.proofs.inner.letters.write_some.Statement.{statement}
 use Rattle.writes.proofs.inner.letters.write_some.Tie as tie
 
 abbrev Inv-loop : tie.InvT-loop
-Inv-loop bytes o from to out₀ i₀ out i = (from ≤ i) × (i ≤ to) × Lettered bytes o out₀ from i out
+Inv-loop bytes o from to out₀ i₀ out i = (from ≤ i) × (i ≤ to) × Made (letterAt bytes o) from i out₀ out
 
 abbrev μ-loop : tie.MeasureT-loop
 μ-loop bytes o from to out₀ i₀ out i = to - i
 
 loop-holds : tie.Need-loop-holds Inv-loop μ-loop
-loop-holds c = (search needs, search needs, lettered-none _ _ _ _)
+loop-holds c = (omega arith, omega arith, made-none (omega arith))
 
 add-p : tie.Need-add-p Inv-loop μ-loop
 add-p c = omega arith
@@ -40,16 +41,15 @@ loop-less : tie.Need-loop-less Inv-loop μ-loop
 loop-less c = omega arith
 
 loop-again : tie.Need-loop-again Inv-loop μ-loop
-loop-again c = (omega arith, omega arith, lettered-more _ _ _ _ _ _ _ (c .before .before .before .before .loop .inv .0) (omega arith) (letter-at _ _ _ _ _ (c .before .digit .ensures) (c .low-letter .ensures)) (c .before .before .before .before .loop .inv .2))
+loop-again c =
+    let l = c .before .before .before .before .loop in
+    (omega arith, omega arith, made-more (l .inv .2) (omega arith) (omega arith) (letter-at _ _ (l .i) _ _ (c .before .digit .ensures) (c .low-letter .ensures)))
 
 same-length : tie.Need-same-length Inv-loop μ-loop
 same-length c = c .before .loop .inv .2 .long
 
 returns : tie.Need-returns Inv-loop μ-loop
-returns c =
-    let a = c .before .before .before .before .args in
-    let e : c .before .loop .i ≡ a .to = omega arith in
-    subst (λ (x : ℕ). Lettered (a .bytes .now) (a .o) (a .out .now) (a .from) x (c .before .loop .out)) e (c .before .loop .inv .2)
+returns c = made-to (c .before .loop .inv .2) (omega arith)
 
 pub write-some-spec : {M : Type 1} → statement M
 write-some-spec =

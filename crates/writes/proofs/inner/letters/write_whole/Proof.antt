@@ -1,16 +1,18 @@
 -- The invariant: a run of letters up to i, the first letter of byte b. Assumes nothing.
-use mathlib.Core.Path.{_≡_, subst}
-use Prim.Native.Nat.{ℕ, _+_, _-_, _*_, _≤_, _<_}
+use mathlib.Core.Path.{_≡_}
+use Prim.Native.Nat.{_+_, _-_, _*_, _≤_, _<_}
 use native.Mathlib.Omega.{arith}
 use lib.ListN.{length, length-set}
 use borrow.Author.Needs.{needs}
-use Rattle.writes.specs.Letters.{Lettered}
-use Rattle.writes.proofs.LetterLaws.{lettered-none, lettered-four}
+use Rattle.codes.specs.Made.{Made}
+use Rattle.codes.proofs.MadeLaws.{made-none, made-to}
+use Rattle.writes.specs.Writes.{letterAt}
+use Rattle.writes.proofs.LetterLaws.{letters-four}
 use Rattle.writes.proofs.inner.letters.write_whole.Statement.{statement}
 use Rattle.writes.proofs.inner.letters.write_whole.Tie as tie
 
 abbrev Inv-loop : tie.InvT-loop
-Inv-loop bytes o at stop out₀ b₀ i₀ out b i = (at ≤ b) × (b ≤ stop) × (b * 4 ≡ o + i) × Lettered bytes o out₀ (at * 4 - o) i out
+Inv-loop bytes o at stop out₀ b₀ i₀ out b i = (at ≤ b) × (b ≤ stop) × (b * 4 ≡ o + i) × Made (letterAt bytes o) (at * 4 - o) i out₀ out
 
 abbrev μ-loop : tie.MeasureT-loop
 μ-loop bytes o at stop out₀ b₀ i₀ out b i = stop - b
@@ -22,7 +24,7 @@ sub-i : tie.Need-sub-i Inv-loop μ-loop
 sub-i c = omega arith
 
 loop-holds : tie.Need-loop-holds Inv-loop μ-loop
-loop-holds c = (search needs, search needs, omega arith, lettered-none _ _ _ _)
+loop-holds c = (omega arith, omega arith, omega arith, made-none (omega arith))
 
 shared-slice-read-x : tie.Need-shared-slice-read-x Inv-loop μ-loop
 shared-slice-read-x c = omega arith
@@ -75,21 +77,21 @@ loop-less c = omega arith
 
 loop-again : tie.Need-loop-again Inv-loop μ-loop
 loop-again c =
-    let l = c .before .before .before .before .before .before .loop in (
+    let x = c .before .before .before in
+    let l = x .before .before .before .loop in
+    let h = room (x .before .before) in (
       omega arith,
       omega arith,
       omega arith,
-      lettered-four _ _ _ _ _ (l .i) (l .b) _ _ _ _ (omega arith) (omega (arith, room (c .before .before .before .before .before), l .inv .3 .long)) (l .inv .2) (c .before .before .before .low-letter .ensures) (c .before .before .low-letter2 .ensures) (c .before .low-letter3 .ensures) (c .low-letter4 .ensures) (l .inv .3),
+      letters-four _ _ (l .b) (l .inv .3) (omega arith) (omega (arith, l .inv .3 .long)) (l .inv .2)
+          (x .low-letter .ensures) (c .before .before .low-letter2 .ensures) (c .before .low-letter3 .ensures) (c .low-letter4 .ensures),
     )
 
 same-length : tie.Need-same-length Inv-loop μ-loop
 same-length c = c .before .loop .inv .3 .long
 
 returns : tie.Need-returns Inv-loop μ-loop
-returns c =
-    let a = c .before .before .before .before .args in
-    let e : c .before .loop .i ≡ a .stop * 4 - a .o = omega arith in
-    subst (λ (x : ℕ). Lettered (a .bytes .now) (a .o) (a .out .now) (a .at * 4 - a .o) x (c .before .loop .out)) e (c .before .loop .inv .3)
+returns c = made-to (c .before .loop .inv .3) (omega arith)
 
 pub write-whole-spec : {M : Type 1} → statement M
 write-whole-spec =

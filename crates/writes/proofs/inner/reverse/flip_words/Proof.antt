@@ -13,7 +13,8 @@ use Rattle.writes.proofs.inner.reverse.flip_words.Statement.{statement}
 use Rattle.writes.proofs.inner.reverse.flip_words.Tie as tie
 
 abbrev Inv-loop : tie.InvT-loop
-Inv-loop w bytes p bits out₀ at₀ out at = (out ≡ charsOf 8 at (flip w (complement w) (bits / w) (word 8 bytes / 2 ^ p)) ++ drop at out₀) × (at % 8 ≡ 0) × (8 * at < bits + 64) × (length out ≡ length out₀)
+Inv-loop w bytes p bits out₀ at₀ out at =
+    (out ≡ charsOf 8 at (flip w (complement w) (bits / w) (word 8 bytes / 2 ^ p)) ++ drop at out₀) × (at % 8 ≡ 0) × (8 * at < bits + 64) × (length out ≡ length out₀)
 
 abbrev μ-loop : tie.MeasureT-loop
 μ-loop w bytes p bits out₀ at₀ out at = bits - 8 * at
@@ -55,16 +56,17 @@ loop-less c = omega arith
 loop-again : tie.Need-loop-again Inv-loop μ-loop
 loop-again c =
     let k = c .before .before in
-    let l = k .before .before .before .before in
-    let s = l .before .before .before in
+    let o = k .before .before in
+    let l = o .before .before .loop in
+    let s = o .before .before .before .before .before in
     let a = s .args in
-    let h = s .pre .1 .1 .1 in
-    let m : l .loop .at + 8 ≤ length (a .out .now) = omega (arith, h .2) in (
+    let x = o .flip-next .result in
+    let room : l .at + 8 ≤ length (a .out .now) = omega (arith, s .pre .1 .1 .1 .2) in (
       k .store64 .ensures
-          ∙ flip-turn (s .pre .0) (word 8 (a .bytes .now) / 2 ^ a .p) (a .bits) (l .loop .at) (a .out .now) (l .loop .out) (k .before .before .flip-next .result) (s .pre .1 .1 .0) (omega arith) m (k .before .before .flip-next .ensures) (l .loop .inv .0),
-      omega (arith, l .loop .inv .1),
+          ∙ flip-turn (s .pre .0) (word 8 (a .bytes .now) / 2 ^ a .p) (a .bits) (l .at) (a .out .now) (l .out) x (s .pre .1 .1 .0) (omega arith) room (o .flip-next .ensures) (l .inv .0),
+      omega (arith, l .inv .1),
       omega arith,
-      ap length (k .store64 .ensures) ∙ length-sets (l .loop .out) (l .loop .at) (charsOf 8 8 (k .before .before .flip-next .result)) ∙ l .loop .inv .3,
+      ap length (k .store64 .ensures) ∙ length-sets (l .out) (l .at) (charsOf 8 8 x) ∙ l .inv .3,
     )
 
 same-length : tie.Need-same-length Inv-loop μ-loop
