@@ -9,3 +9,4 @@ pub mod SliceLaws
 pub mod ReadWalk
 pub mod Viewed
 pub mod Decided
+pub mod Lowest
