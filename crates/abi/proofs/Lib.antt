@@ -1,0 +1,4 @@
+mod Skip
+pub mod DecidedBases
+pub mod DecidedFlags
+pub mod DecidedPlain
