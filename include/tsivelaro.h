@@ -349,13 +349,7 @@ TSIV_USE uint32_t tsiv_flags_fill_windows(const uint8_t *bytes, size_t bytes_siz
  */
 TSIV_USE uint32_t tsiv_flags_step_windows(const uint8_t *bytes, size_t bytes_size, size_t offset, size_t len,
                                           size_t context, size_t k, uint32_t counts[8], size_t *step,
-                                          uint32_t answers[8]); the next state comes through next_counts
- * and *next_step. TOO_LONG, BAD_VIEW; BAD_STREAM also for a step at or past the steps, a count above k - 1, or a count that is below the
- * flag that leaves the window.
- */
-TSIV_USE uint32_t tsiv_flags_step_windows(const uint8_t *bytes, size_t bytes_size, size_t offset, size_t len,
-                                          size_t context, size_t k, const uint32_t counts[8], size_t step,
-                                          uint32_t answers[8], uint32_t next_counts[8], size_t *next_step);
+                                          uint32_t answers[8]);
 
 /*
  * ---- The stored form, edition 1: byte 1; the length n in groups of seven bits, low group first, the top bit set on all but the last
