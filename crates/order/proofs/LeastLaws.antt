@@ -4,6 +4,7 @@ use mathlib.Core.Bool.{Bool, true, false}
 use mathlib.Core.List.{List}
 use mathlib.Core.Path.{_≡_, refl, sym, ap, _∙_}
 use Prim.Native.Nat.{ℕ, _%_}
+use denote.Ref.{RefT}
 use Rattle.codes.specs.Codes.{per, pick}
 use Rattle.codes.specs.Refusals.{Answer, answer, ifDone}
 use Rattle.codes.specs.declared.refusals.Outcome.{Outcome}
@@ -11,10 +12,11 @@ use Rattle.codes.specs.declared.refusals.Outcome.the-variants.{Done, Refused}
 use Rattle.codes.specs.declared.refusals.Refusal.{Refusal}
 use Rattle.codes.proofs.OutcomeLaws.{answer-refused}
 use Rattle.fields.specs.Answers.{numbersSay}
-use Rattle.fields.specs.Spans.{Span, front, normalPart}
+use Rattle.fields.specs.Spans.{Span, spanOf, front, normalPart}
 use Rattle.fields.specs.declared.inner.parts.Numbers.{Numbers}
-use Rattle.views.specs.Views.{Lent, empty, normal}
-use Rattle.views.proofs.PartLaws.{numbers-outcome}
+use Rattle.views.specs.Answers.{partSays}
+use Rattle.views.specs.Views.{Lent, lent, empty, normal}
+use Rattle.views.proofs.PartLaws.{part-of, numbers-outcome}
 use Rattle.order.specs.Order.{pairOutcome, pairOrder, isSecond, choice, chosen, numbersIn}
 use Rattle.order.specs.declared.inner.least.Choice.{Choice}
 
@@ -51,11 +53,17 @@ module _ (w : ℕ) (s : Span) (ao al : ℕ) (t : Span) (bo bl : ℕ) where
   numbers-by Done false = refl
   numbers-by (Refused r) b = refl
 
-  module _ (c : Choice) (e : c ≡ choice w (s .bytes) ao al (t .bytes) bo bl) where
+  module _ (c : Choice) (which : c ≡ choice w (s .bytes) ao al (t .bytes) bo bl) where
     pub span-chosen : spanBy c ≡ chosen w s ao al t bo bl .values .span
     unfolding chosen
-    span-chosen = ap spanBy e ∙ span-by (pairOutcome w (s .bytes) ao al (t .bytes) bo bl) (isSecond (pairOrder w (s .bytes) ao al (t .bytes) bo bl))
+    span-chosen = ap spanBy which ∙ span-by (pairOutcome w (s .bytes) ao al (t .bytes) bo bl) (isSecond (pairOrder w (s .bytes) ao al (t .bytes) bo bl))
 
     pub numbers-chosen : numbersBy c ≡ numbersIn (chosen w s ao al t bo bl)
     unfolding chosen
-    numbers-chosen = ap numbersBy e ∙ numbers-by (pairOutcome w (s .bytes) ao al (t .bytes) bo bl) (isSecond (pairOrder w (s .bytes) ao al (t .bytes) bo bl))
+    numbers-chosen = ap numbersBy which ∙ numbers-by (pairOutcome w (s .bytes) ao al (t .bytes) bo bl) (isSecond (pairOrder w (s .bytes) ao al (t .bytes) bo bl))
+
+    -- what a part of numbers and a slice says
+    pub part-chosen : (n : Numbers) (r : RefT (List ℕ)) → numbersSay n ≡ numbersBy c → spanOf r ≡ chosen w s ao al t bo bl .values .span → partSays (part-of n r) ≡ chosen w s ao al t bo bl
+    part-chosen n r e eb =
+        let f = e ∙ numbers-chosen in
+        λ i. record { no = f i .no; values = lent (eb i) (f i .values .0) (f i .values .1) }

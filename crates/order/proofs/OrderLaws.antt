@@ -51,21 +51,27 @@ compare-common (x ∷ xs) (y ∷ ys) =
           (below-or x y (λ h. rw (lt-ltb x y h)) (λ h. rw (le-ltb x y h, lt-ltb y x (omega arith))))
     ]
 
--- lists of different lengths are not equal
-pub compare-length : (xs ys : List ℕ) → compare xs ys ≡ Equal → length xs ≡ length ys
+-- where the first characters decide nothing, they are equal, and the rest decides
+behind : (x y : ℕ) (o : Order) → pick (ltb x y) Less (pick (ltb y x) Greater o) ≡ Equal → (x ≡ y) × (o ≡ Equal)
+behind x y o e =
+    below-or x y (λ h. let z : _≡_ {A = ℕ} 0 1 = cc (lt-ltb x y h) in absurd (omega arith))
+    (λ h. below-or y x (λ l. let z : _≡_ {A = ℕ} 0 1 = cc (le-ltb x y h, lt-ltb y x l) in absurd (omega arith)) (λ l. (omega arith, rw (le-ltb x y h, le-ltb y x l) at e)))
+
+-- two lists compare equal exactly if they are
+pub compare-equal : (xs ys : List ℕ) → compare xs ys ≡ Equal → xs ≡ ys
 unfolding compare
-compare-length [] [] e = refl
-compare-length [] (y ∷ ys) e = let z : _≡_ {A = ℕ} 0 1 = cc in absurd (omega arith)
-compare-length (x ∷ xs) [] e = let z : _≡_ {A = ℕ} 0 1 = cc in absurd (omega arith)
-compare-length (x ∷ xs) (y ∷ ys) e = ap suc (compare-length xs ys (behind (ltb x y) (ltb y x) (compare xs ys) e))
-  where
-    behind : (a b : Bool) (o : Order) → pick a Less (pick b Greater o) ≡ Equal → o ≡ Equal
-    behind true b o e = let z : _≡_ {A = ℕ} 0 1 = cc in absurd (omega arith)
-    behind false true o e = let z : _≡_ {A = ℕ} 0 1 = cc in absurd (omega arith)
-    behind false false o e = e
+compare-equal [] [] e = refl
+compare-equal [] (y ∷ ys) e = let z : _≡_ {A = ℕ} 0 1 = cc in absurd (omega arith)
+compare-equal (x ∷ xs) [] e = let z : _≡_ {A = ℕ} 0 1 = cc in absurd (omega arith)
+compare-equal (x ∷ xs) (y ∷ ys) e = let b = behind x y (compare xs ys) e in ap₂ (λ (z : ℕ) (zs : List ℕ). z ∷ zs) (b .0) (compare-equal xs ys (b .1))
+
+pub compare-same : (xs : List ℕ) → compare xs xs ≡ Equal
+unfolding compare
+compare-same [] = refl
+compare-same (x ∷ xs) = rw (le-ltb x x (omega arith)) (compare-same xs)
 
 pub unequal-lengths : (w : ℕ) (s : List ℕ) (o al : ℕ) (t : List ℕ) (o′ bl : ℕ) → (al ≡ bl → ⊥) → false ≡ isEqual (pairOrder w s o al t o′ bl)
-unequal-lengths w s o al t o′ bl n = other (pairOrder w s o al t o′ bl) (λ e. n (sym (length-chars w s o al) ∙ compare-length (chars w s o al) (chars w t o′ bl) e ∙ length-chars w t o′ bl))
+unequal-lengths w s o al t o′ bl n = other (pairOrder w s o al t o′ bl) (λ e. n (sym (length-chars w s o al) ∙ ap length (compare-equal (chars w s o al) (chars w t o′ bl) e) ∙ length-chars w t o′ bl))
   where
     other : (p : Order) → (p ≡ Equal → ⊥) → false ≡ isEqual p
     other Less n = refl
