@@ -229,12 +229,12 @@ TSIV_USE uint32_t tsiv_flags_eq(const uint8_t *a, size_t a_size, size_t a_offset
                                 size_t b_size, size_t b_offset, size_t b_len, bool *equal);
 
 /* *there: whether the pattern stands in the text; *place: the least place where it does, 0 where it does not. */
-TSIV_USE uint32_t tsiv_bases_find(const uint8_t *pattern, size_t pattern_size, size_t pattern_offset,
-                                  size_t pattern_len, const uint8_t *text, size_t text_size, size_t text_offset,
-                                  size_t text_len, bool *there, size_t *place);
-TSIV_USE uint32_t tsiv_flags_find(const uint8_t *pattern, size_t pattern_size, size_t pattern_offset,
-                                  size_t pattern_len, const uint8_t *text, size_t text_size, size_t text_offset,
-                                  size_t text_len, bool *there, size_t *place);
+TSIV_USE uint32_t tsiv_bases_find(const uint8_t *text, size_t text_size, size_t text_offset, size_t text_len,
+                                  const uint8_t *pattern, size_t pattern_size, size_t pattern_offset,
+                                  size_t pattern_len, bool *there, size_t *place);
+TSIV_USE uint32_t tsiv_flags_find(const uint8_t *text, size_t text_size, size_t text_offset, size_t text_len,
+                                  const uint8_t *pattern, size_t pattern_size, size_t pattern_offset,
+                                  size_t pattern_len, bool *there, size_t *place);
 
 /* *second: whether b comes first, not at a tie. The part, as tsiv_.._normalise gives it, lies in b's bytes if so, else in a's. */
 TSIV_USE uint32_t tsiv_bases_least(const uint8_t *a, size_t a_size, size_t a_offset, size_t a_len, const uint8_t *b,

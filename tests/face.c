@@ -82,7 +82,7 @@ static void worked(void)
     uint8_t ac[49] = {4}, act[49] = {36};
     HOLD(tsiv_bases_cmp_lcp(ac, 49, 0, 2, act, 49, 0, 3, &order, &a) == 0 && order == -1 && a == 2);
     HOLD(tsiv_bases_least(act, 49, 0, 3, ac, 49, 0, 2, &flag, &a, &b, &c, &d) == 0 && flag && d == 2);
-    HOLD(tsiv_bases_find(ac, 49, 1, 1, act, 49, 0, 3, &flag, &a) == 0 && flag && a == 1);
+    HOLD(tsiv_bases_find(act, 49, 0, 3, ac, 49, 1, 1, &flag, &a) == 0 && flag && a == 1);
     /* length 3, a view at in-byte offset 1 of length 2: 5 to 7 at width 2, 9 to 11 at width 1 */
     len = 3;
     HOLD(tsiv_bases_push_seq(bytes, 64, &len, ac, 49, 1, 2, &a, &b) == 0 && a == 5 && b == 7 && len == 7);
@@ -195,7 +195,7 @@ static void too_long(void)
     HOLD(tsiv_##W##_cmp_lcp(out, 64, 0, 1, big, more, 0, 1, &order, &a) == TSIV_TOO_LONG);                             \
     HOLD(tsiv_##W##_cmp(big, more, 0, 1, out, 64, 0, 1, &order) == TSIV_TOO_LONG);                                     \
     HOLD(tsiv_##W##_eq(out, 64, 0, 1, big, more, 0, 1, &flag) == TSIV_TOO_LONG);                                       \
-    HOLD(tsiv_##W##_find(out, 64, 0, 1, big, more, 0, 1, &flag, &a) == TSIV_TOO_LONG);                                 \
+    HOLD(tsiv_##W##_find(big, more, 0, 1, out, 64, 0, 1, &flag, &a) == TSIV_TOO_LONG);                                 \
     HOLD(tsiv_##W##_least(out, 64, 0, 1, big, more, 0, 1, &flag, &a, &b, &c, &d) == TSIV_TOO_LONG);                    \
     HOLD(tsiv_##W##_clear(big, more, &len) == TSIV_TOO_LONG && len == 0);                                              \
     HOLD(tsiv_##W##_push_ascii(big, more, &len, out, 1, &a, &b) == TSIV_TOO_LONG);                                     \

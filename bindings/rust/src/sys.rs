@@ -49,8 +49,8 @@ extern "C" {
     pub fn tsiv_flags_cmp(a: *const u8, a_size: usize, a_offset: usize, a_len: usize, b: *const u8, b_size: usize, b_offset: usize, b_len: usize, order: &mut i32) -> u32;
     pub fn tsiv_bases_eq(a: *const u8, a_size: usize, a_offset: usize, a_len: usize, b: *const u8, b_size: usize, b_offset: usize, b_len: usize, equal: &mut bool) -> u32;
     pub fn tsiv_flags_eq(a: *const u8, a_size: usize, a_offset: usize, a_len: usize, b: *const u8, b_size: usize, b_offset: usize, b_len: usize, equal: &mut bool) -> u32;
-    pub fn tsiv_bases_find(pattern: *const u8, pattern_size: usize, pattern_offset: usize, pattern_len: usize, text: *const u8, text_size: usize, text_offset: usize, text_len: usize, there: &mut bool, place: &mut usize) -> u32;
-    pub fn tsiv_flags_find(pattern: *const u8, pattern_size: usize, pattern_offset: usize, pattern_len: usize, text: *const u8, text_size: usize, text_offset: usize, text_len: usize, there: &mut bool, place: &mut usize) -> u32;
+    pub fn tsiv_bases_find(text: *const u8, text_size: usize, text_offset: usize, text_len: usize, pattern: *const u8, pattern_size: usize, pattern_offset: usize, pattern_len: usize, there: &mut bool, place: &mut usize) -> u32;
+    pub fn tsiv_flags_find(text: *const u8, text_size: usize, text_offset: usize, text_len: usize, pattern: *const u8, pattern_size: usize, pattern_offset: usize, pattern_len: usize, there: &mut bool, place: &mut usize) -> u32;
     pub fn tsiv_bases_least(a: *const u8, a_size: usize, a_offset: usize, a_len: usize, b: *const u8, b_size: usize, b_offset: usize, b_len: usize, second: &mut bool, at: &mut usize, size: &mut usize, part_offset: &mut usize, part_len: &mut usize) -> u32;
     pub fn tsiv_flags_least(a: *const u8, a_size: usize, a_offset: usize, a_len: usize, b: *const u8, b_size: usize, b_offset: usize, b_len: usize, second: &mut bool, at: &mut usize, size: &mut usize, part_offset: &mut usize, part_len: &mut usize) -> u32;
     pub fn tsiv_bases_clear(buffer: *mut u8, buffer_size: usize, len: &mut usize) -> u32;

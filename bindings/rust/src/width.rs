@@ -255,14 +255,14 @@ macro_rules! width {
                     Refusal::check(number).map(|()| equal)
                 }
 
-                /// The least place where it stands in a text.
-                pub fn find_in(self, text: View<'_>) -> Result<Option<Chars>, Refusal> {
+                /// The least place where a pattern stands in it.
+                pub fn find(self, pattern: View<'_>) -> Result<Option<Chars>, Refusal> {
                     let (mut there, mut place) = (false, 0);
                     // SAFETY: as in `cmp_lcp`.
                     let number = unsafe {
                         call::find(
                             self.bytes.as_ptr(), self.bytes.len(), self.offset.0, self.len.0,
-                            text.bytes.as_ptr(), text.bytes.len(), text.offset.0, text.len.0,
+                            pattern.bytes.as_ptr(), pattern.bytes.len(), pattern.offset.0, pattern.len.0,
                             &mut there, &mut place,
                         )
                     };
