@@ -36,7 +36,7 @@ fn comes_second(order: Order) -> bool
 }
 
 // Which of the two comes first.
-pub(crate) fn choose(
+pub fn choose(
     w: usize,
     a: &[u8],
     ao: Chars,
