@@ -36,15 +36,7 @@ fn comes_second(order: Order) -> bool
 }
 
 // Which of the two comes first.
-pub fn choose(
-    w: usize,
-    a: &[u8],
-    ao: Chars,
-    al: Chars,
-    b: &[u8],
-    bo: Chars,
-    bl: Chars,
-) -> Choice
+pub fn choose(w: usize, a: &[u8], ao: Chars, al: Chars, b: &[u8], bo: Chars, bl: Chars) -> Choice
     requires { ⌜ IsWidth w ⌝ }
     ensures { λ r. ⌜ r ≡ choice w (now (a .entry)) (ao .0) (al .0) (now (b .entry)) (bo .0) (bl .0) ⌝ }
 {
