@@ -8,4 +8,5 @@ pub mod NormalWalk
 pub mod SliceLaws
 pub mod ReadWalk
 pub mod Viewed
+pub mod PartsViewed
 pub mod Decided
