@@ -74,7 +74,8 @@ module _ {w : ℕ} {us : List ℕ} {ao al : ℕ} {xs : List ℕ} {xo xl : ℕ} (
   found-viewed = pair-viewed (λ q cs ds. answer q (placed (placeOf ds cs)) (false, 0))
 
 -- the part that comes first: its number, its length and its characters. Its bytes, their place and its offset within a byte are its own
-module _ {w : ℕ} (W : IsWidth w) (s : Span) {ao al : ℕ} (x : Span) {xo xl : ℕ} (e : Same w (s .bytes) ao al (x .bytes) xo xl) (t : Span) {bo bl : ℕ} (y : Span) {yo yl : ℕ} (f : Same w (t .bytes) bo bl (y .bytes) yo yl) where
+module _ {w : ℕ} (W : IsWidth w) (s : Span) {ao al : ℕ} (x : Span) {xo xl : ℕ} (e : Same w (s .bytes) ao al (x .bytes) xo xl)
+    (t : Span) {bo bl : ℕ} (y : Span) {yo yl : ℕ} (f : Same w (t .bytes) bo bl (y .bytes) yo yl) where
   abbrev mine : Lent
   mine = chosen w s ao al t bo bl .values
 
