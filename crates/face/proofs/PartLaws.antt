@@ -1,21 +1,24 @@
 -- What is said of a part: by the outcome's case, a part's numbers are those of the definition where it is done, and zeros where it is refused.
 -- Assumes nothing.
 use mathlib.Core.Bool.{Bool, true, false}
-use mathlib.Core.List.{List, []}
-use mathlib.Core.Path.{_≡_, refl, sym, ap, _∙_}
-use Prim.Native.Nat.{ℕ}
+use mathlib.Core.List.{List}
+use mathlib.Core.Path.{_≡_, refl, sym, ap, ap₂, _∙_}
+use Prim.Native.Nat.{ℕ, _/_, _%_}
 use lib.ListN.{length}
-use Rattle.codes.specs.Codes.{pick}
+use Rattle.codes.specs.Codes.{IsWidth, per, pick}
 use Rattle.codes.specs.Refusals.{Answer, answer, first, ifDone}
 use Rattle.codes.specs.declared.refusals.Outcome.{Outcome}
 use Rattle.codes.specs.declared.refusals.Outcome.the-variants.{Done, Refused}
-use Rattle.codes.proofs.OutcomeLaws.{answer-done}
-use Rattle.codes.proofs.RefusalLaws.{outcomeAt, outcomeAt-number}
-use Rattle.order.specs.Order.{pairOutcome, pairOrder, isSecond}
+use Rattle.codes.specs.declared.refusals.Refusal.{Refusal}
+use Rattle.order.specs.Order.{pairOutcome, pairOrder, isSecond, choice}
+use Rattle.order.specs.declared.inner.least.Choice.{Choice}
 use Rattle.order.proofs.OrderLaws.{pair-views}
 use Rattle.fields.specs.Answers.{numbersSay}
 use Rattle.fields.specs.Fields.{viewTests}
+use Rattle.fields.specs.Spans.{Span, front, normalPart}
 use Rattle.fields.specs.declared.inner.parts.Numbers.{Numbers}
+use Rattle.fields.proofs.ViewLaws.{view-accepted, normal-length}
+use Rattle.views.proofs.PartLaws.{numbers-outcome}
 use Rattle.given.specs.Face.{said, Part, noPart}
 use Rattle.face.specs.Parts.{partOf, normalisedPart, leastPart}
 
@@ -23,7 +26,7 @@ use Rattle.face.specs.Parts.{partOf, normalisedPart, leastPart}
 pub part-numbers : (n : Numbers) (q : Outcome) (k o len : ℕ) → numbersSay n ≡ answer q (o, len) (0, 0)
     → answer {A = Part} (n .outcome) (0, k, n .offset .0, n .len .0) noPart ≡ answer q (0, k, o, len) noPart
 part-numbers n q k o len e =
-    ap (λ (p : Outcome). answer {A = Part} p (0, k, n .offset .0, n .len .0) noPart) (sym (outcomeAt-number (n .outcome)) ∙ ap (λ (x : Answer (ℕ × ℕ)). outcomeAt (x .no)) e ∙ outcomeAt-number q)
+    ap (λ (p : Outcome). answer {A = Part} p (0, k, n .offset .0, n .len .0) noPart) (numbers-outcome n q (o, len) e)
     ∙ ap (λ (x : Answer (ℕ × ℕ)). answer {A = Part} q (0, k, x .values .0, x .values .1) noPart) e
     ∙ by-case q
   where
@@ -31,32 +34,53 @@ part-numbers n q k o len e =
     by-case Done = refl
     by-case (Refused r) = refl
 
--- the bytes count only where the part is done
-pub part-bytes : (q : Outcome) (at o len : ℕ) (bs : List ℕ) → answer {A = Part} q (at, length (ifDone q bs []), o, len) noPart ≡ answer q (at, length bs, o, len) noPart
-part-bytes Done at o len bs = refl
-part-bytes (Refused r) at o len bs = refl
+-- the count of the bytes of a normalised part; beside a refusal it does not count
+pub part-bytes : {w : ℕ} → IsWidth w → (s t : Span) (o len : ℕ) → t ≡ ifDone (first (viewTests w (length (s .bytes)) o len)) (normalPart w s o len) (front s)
+    → answer {A = Part} (first (viewTests w (length (s .bytes)) o len)) (o / per w, length (t .bytes), o % per w, len) noPart ≡ normalisedPart w (s .bytes) o len
+unfolding normalisedPart
+part-bytes {w} W s t o len e = ap (λ (x : Span). given (first (viewTests w (length (s .bytes)) o len)) (length (x .bytes))) e ∙ by-case (first (viewTests w (length (s .bytes)) o len)) refl
+  where
+    given : Outcome → ℕ → Answer Part
+    given q n = answer q (o / per w, n, o % per w, len) noPart
 
--- what is said of a part, with whether it is the second's
-pub with-second : (second : Bool) {n : ℕ} {p : Part} {x : Answer Part} → said n p ≡ x → said {A = Bool × Part} n (second, p) ≡ said (x .no) (second, x .values)
-with-second second e = ap (λ (x : Answer Part). said {A = Bool × Part} (x .no) (second, x .values)) e
+    by-case : (q : Outcome) → first (viewTests w (length (s .bytes)) o len) ≡ q → given q (length (ifDone q (normalPart w s o len) (front s) .bytes)) ≡ answer q (partOf w o len) noPart
+    by-case Done d = ap (given Done) (normal-length W s o len (view-accepted w (length (s .bytes)) o len d))
+    by-case (Refused r) d = refl
 
-module _ (w : ℕ) (xs : List ℕ) (ao al : ℕ) (bs : List ℕ) (bo bl : ℕ) (d : pairOutcome w xs ao al bs bo bl ≡ Done) where
-  picked : (second : Bool) → isSecond (pairOrder w xs ao al bs bo bl) ≡ second
-      → said {A = Bool × Part} 0 (pick second (true, partOf w bs bo bl) (false, partOf w xs ao al)) ≡ leastPart w xs ao al bs bo bl
+-- what is said of the part that comes first, by the choice c
+module _ (w : ℕ) (xs : List ℕ) (ao al : ℕ) (bs : List ℕ) (bo bl : ℕ) (c : Choice) (which : c ≡ choice w xs ao al bs bo bl) where
+  abbrev partBy : Outcome → Bool → Answer Part
+  partBy q b = answer q (pick b (partOf w bo bl) (partOf w ao al)) noPart
+
+  abbrev with-second : Bool → Answer Part → Answer (Bool × Part)
+  with-second b x = said (x .no) (b, x .values)
+
+  chosen : {n : ℕ} {p : Part} → said n p ≡ partBy (c .outcome) (c .second) → said {A = Bool × Part} n (c .second, p) ≡ leastPart w xs ao al bs bo bl
   unfolding leastPart
-  picked second e =
-      answer-done {A = Bool × Part} (pairOutcome w xs ao al bs bo bl) _ _ (false, noPart) d
-      (sym (ap (λ (b : Bool). pick {A = Bool × Part} b (true, partOf w bs bo bl) (false, partOf w xs ao al)) e))
+  chosen e =
+      ap (with-second (c .second)) e
+      ∙ ap (λ (x : Choice). with-second (x .second) (partBy (x .outcome) (x .second))) which
+      ∙ by-case (pairOutcome w xs ao al bs bo bl) (isSecond (pairOrder w xs ao al bs bo bl))
+    where
+      by-case : (q : Outcome) (b : Bool) → with-second (ifDone q b false) (partBy q (ifDone q b false)) ≡ answer q (pick b (true, partOf w bo bl) (false, partOf w ao al)) (false, noPart)
+      by-case Done true = refl
+      by-case Done false = refl
+      by-case (Refused r) b = refl
+
+  pub least-refused : {n : ℕ} {p v : Part} (r : Refusal) → said n p ≡ answer (Refused r) v noPart → c .outcome ≡ Refused r → said {A = Bool × Part} n (c .second, p) ≡ leastPart w xs ao al bs bo bl
+  least-refused r e d = chosen (e ∙ ap (λ (q : Outcome). partBy q (c .second)) (sym d))
 
   -- the normalised part of an accepted view
-  part-done : (ys : List ℕ) (o len : ℕ) → first (viewTests w (length ys) o len) ≡ Done → normalisedPart w ys o len ≡ said 0 (partOf w ys o len)
+  part-done : (ys : List ℕ) (o len : ℕ) → first (viewTests w (length ys) o len) ≡ Done → normalisedPart w ys o len ≡ answer Done (partOf w o len) noPart
   unfolding normalisedPart
-  part-done ys o len e = ap (λ (p : Outcome). answer {A = Part} p (partOf w ys o len) noPart) e
+  part-done ys o len e = ap (λ (p : Outcome). answer {A = Part} p (partOf w o len) noPart) e
 
-  pub least-second : isSecond (pairOrder w xs ao al bs bo bl) ≡ true
-      → said {A = Bool × Part} (normalisedPart w bs bo bl .no) (true, normalisedPart w bs bo bl .values) ≡ leastPart w xs ao al bs bo bl
-  least-second e = with-second true (part-done bs bo bl (pair-views w (length xs) ao al (length bs) bo bl d .1)) ∙ picked true e
+  module _ (d : c .outcome ≡ Done) where
+    views : (first (viewTests w (length xs) ao al) ≡ Done) × (first (viewTests w (length bs) bo bl) ≡ Done)
+    views = pair-views w (length xs) ao al (length bs) bo bl (sym (ap (λ (x : Choice). x .outcome) which) ∙ d)
 
-  pub least-first : isSecond (pairOrder w xs ao al bs bo bl) ≡ false
-      → said {A = Bool × Part} (normalisedPart w xs ao al .no) (false, normalisedPart w xs ao al .values) ≡ leastPart w xs ao al bs bo bl
-  least-first e = with-second false (part-done xs ao al (pair-views w (length xs) ao al (length bs) bo bl d .0)) ∙ picked false e
+    pub least-second : {n : ℕ} {p : Part} → said n p ≡ normalisedPart w bs bo bl → c .second ≡ true → said {A = Bool × Part} n (c .second, p) ≡ leastPart w xs ao al bs bo bl
+    least-second e f = chosen (e ∙ part-done bs bo bl (views .1) ∙ ap₂ partBy (sym d) (sym f))
+
+    pub least-first : {n : ℕ} {p : Part} → said n p ≡ normalisedPart w xs ao al → c .second ≡ false → said {A = Bool × Part} n (c .second, p) ≡ leastPart w xs ao al bs bo bl
+    least-first e f = chosen (e ∙ part-done xs ao al (views .0) ∙ ap₂ partBy (sym d) (sym f))

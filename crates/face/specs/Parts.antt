@@ -4,15 +4,15 @@ use mathlib.Core.Bool.{Bool, true, false}
 use mathlib.Core.List.{List}
 use Prim.Native.Nat.{ℕ, _+_, _-_, _/_, _%_}
 use lib.ListN.{length}
-use Rattle.codes.specs.Codes.{per, pick}
+use Rattle.codes.specs.Codes.{per, up, trailing, pick}
 use Rattle.codes.specs.Refusals.{Answer, answer, first}
-use Rattle.fields.specs.Fields.{viewTests, sliceTests, normalPart}
+use Rattle.fields.specs.Fields.{viewTests, sliceTests}
 use Rattle.order.specs.Order.{pairOutcome, pairOrder, isSecond}
 use Rattle.given.specs.Face.{Part, noPart}
 
--- the normalised part of a view
-abbrev pub partOf : ℕ → List ℕ → ℕ → ℕ → Part
-partOf w bs o len = (o / per w, length (normalPart w bs o len), o % per w, len)
+-- the normalised part of a view: from byte offset / C8 to byte ceil((offset + length) / C8) + 48, with offset mod C8
+abbrev pub partOf : ℕ → ℕ → ℕ → Part
+partOf w o len = (o / per w, up w (o + len) + trailing - o / per w, o % per w, len)
 
 -- a view is made over all its bytes
 unfoldable pub madePart : ℕ → List ℕ → ℕ → ℕ → Answer Part
@@ -24,10 +24,10 @@ slicedPart w bs o len start end =
     answer (first (sliceTests w (length bs) o len start end)) (0, length bs, o + start, end - start) noPart
 
 unfoldable pub normalisedPart : ℕ → List ℕ → ℕ → ℕ → Answer Part
-normalisedPart w bs o len = answer (first (viewTests w (length bs) o len)) (partOf w bs o len) noPart
+normalisedPart w bs o len = answer (first (viewTests w (length bs) o len)) (partOf w o len) noPart
 
 -- whether the second view comes first, and the normalised part of the one that does
 unfoldable pub leastPart : ℕ → List ℕ → ℕ → ℕ → List ℕ → ℕ → ℕ → Answer (Bool × Part)
 leastPart w xs ao al bs bo bl =
     answer (pairOutcome w xs ao al bs bo bl)
-    (pick (isSecond (pairOrder w xs ao al bs bo bl)) (true, partOf w bs bo bl) (false, partOf w xs ao al)) (false, noPart)
+    (pick (isSecond (pairOrder w xs ao al bs bo bl)) (true, partOf w bo bl) (false, partOf w ao al)) (false, noPart)

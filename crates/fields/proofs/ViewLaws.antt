@@ -6,8 +6,8 @@ use Prim.Native.Nat.{ℕ, _+_, _-_, _*_, _/_, _%_, _^_, _≤_, _<_}
 use native.Mathlib.Nat.{le-of-mul-le-mul-right, div-lt-iff-lt-mul, le-div-iff-mul-le, div-mul-le-self, add-assoc, div-add-mod', mul-add-div-right, mul-add-mod-self-right}
 use native.Mathlib.Omega.{arith}
 use lib.Dec.{ltb, leb}
-use lib.ListN.{length, getD, drop}
-use lib.Seq.{getD-take, getD-drop}
+use lib.ListN.{length, getD, drop, length-drop}
+use lib.Seq.{length-take-le, getD-take, getD-drop}
 use borrow.Author.Tests.{ltb-false, leb-false}
 use Rattle.codes.specs.Codes.{per, up, trailing, IsWidth, charAt, chars}
 use Rattle.codes.specs.Refusals.{first, badIndex, badEnd, badStart}
@@ -51,7 +51,7 @@ module _ {w : ℕ} (W : IsWidth w) {n o len : ℕ} (room : Room w n o len) where
   pub room-start : o / per w ≤ up w (o + len) + trailing
   room-start = let h : o / per w ≤ up w (o + len) = le-div-iff-mul-le (per-pos W) .1 (omega (arith, div-mul-le-self o (per w))) in omega arith
 
--- normalising keeps the characters
+-- what normalising hands back has so many bytes, and keeps the characters
 module _ {w : ℕ} (W : IsWidth w) (s : Span) (o len : ℕ) (room : Room w (length (s .bytes)) o len) where
   abbrev bs : List ℕ
   bs = s .bytes
@@ -78,6 +78,9 @@ module _ {w : ℕ} (W : IsWidth w) (s : Span) (o len : ℕ) (room : Room w (leng
       within =
           let h : (o + i) / per w < up w (o + len) = div-lt-iff-lt-mul (per-pos W) .1 (omega (arith, up-hi W (o + len))) in
           omega (arith, byte)
+
+  pub normal-length : length (normalPart w s o len .bytes) ≡ up w (o + len) + trailing - o / per w
+  normal-length = length-take-le (up w (o + len) + trailing - o / per w) (drop (o / per w) bs) (rw length-drop (omega (arith, room-end W room)))
 
   pub normal-chars : chars w (normalPart w s o len .bytes) (o % per w) len ≡ chars w (s .bytes) o len
   normal-chars = chars-ext w (normalPart w s o len .bytes) bs (o % per w) o len normal-char

@@ -7,3 +7,4 @@ pub mod ReadLaws
 pub mod RoundTrip
 pub mod Decided
 pub mod Viewed
+pub mod Lowest

@@ -6,3 +6,4 @@ pub mod LeastWalk
 pub mod Viewed
 pub mod AnswerLaws
 pub mod Decided
+pub mod Lowest

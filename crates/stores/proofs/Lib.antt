@@ -9,3 +9,4 @@ pub mod AnswerLaws
 pub mod Decided
 pub mod Called
 pub mod Viewed
+pub mod Lowest

@@ -5,3 +5,4 @@ pub mod Stepping
 pub mod Viewed
 pub mod AnswerLaws
 pub mod Decided
+pub mod Lowest

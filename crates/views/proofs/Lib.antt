@@ -10,3 +10,4 @@ pub mod ReadWalk
 pub mod Viewed
 pub mod PartsViewed
 pub mod Decided
+pub mod Lowest

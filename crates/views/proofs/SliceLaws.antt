@@ -19,7 +19,7 @@ use Rattle.codes.proofs.WidthLaws.{up-hi, below-or}
 use Rattle.codes.proofs.OutcomeLaws.{first-next, first-holds, first-done, first-refused, first-both}
 use Rattle.fields.specs.Fields.{viewTests, sliceTests, got}
 use Rattle.fields.specs.Spans.{Span, normalPart}
-use Rattle.fields.proofs.ViewLaws.{Room, view-accepted, slice-cut, room-start, room-end, normal-chars}
+use Rattle.fields.proofs.ViewLaws.{Room, view-accepted, slice-cut, room-start, room-end, normal-length, normal-chars}
 use Rattle.views.specs.Views.{Lent, lent, empty, normal, made, sliced, normalised, gotSliced}
 
 -- a part is an accepted view with these characters
@@ -66,14 +66,13 @@ module _ {w : ℕ} (s : Span) (o len : ℕ) (e : first (viewTests w (length (s .
       let r = view-accepted w (length (s .bytes)) o len e in
       let from : ℕ = o / per w in
       let to : ℕ = up w (o + len) + trailing in
-      let long : length (normalPart w s o len .bytes) ≡ to - from = length-take-le (to - from) (drop from (s .bytes)) (rw length-drop (omega (arith, room-end W r))) in
       let a = add-mul from (to - from) (per w) in
       let b : from + (to - from) ≡ to = add-sub-of-le (room-start W r) in
       let c : (from + (to - from)) * per w ≡ to * per w = ap (λ (x : ℕ). x * per w) b in
       record {
         accepted = room-done w (length (normalPart w s o len .bytes)) (o % per w) len (record {
-          small = omega (arith, r .small, room-end W r);
-          fits = rw long (omega (arith, add-mul (up w (o + len)) trailing (per w), up-hi W (o + len), div-add-mod' o (per w)));
+          small = omega (arith, r .small, room-end W r, normal-length W s o len r);
+          fits = rw (normal-length W s o len r) (omega (arith, add-mul (up w (o + len)) trailing (per w), up-hi W (o + len), div-add-mod' o (per w)));
         });
         characters = normal-chars W s o len r;
       }

@@ -6,3 +6,4 @@ pub mod Stepping
 pub mod Viewed
 pub mod Answered
 pub mod Decided
+pub mod Lowest

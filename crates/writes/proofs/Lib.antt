@@ -3,3 +3,4 @@ pub mod WriteLaws
 pub mod ReverseLaws
 pub mod Viewed
 pub mod Decided
+pub mod Lowest

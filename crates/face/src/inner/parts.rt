@@ -7,16 +7,12 @@ use fields::inner::parts::normal_part;
 use fields::inner::parts::slice_numbers;
 use fields::inner::parts::view_outcome;
 use given::inner::give;
-use order::answers::Order;
-use order::inner::compare::order_of;
-use order::inner::pairs::pair_outcome;
+use order::inner::least::choose;
 ghost use mathlib.Core.Bool.{Bool};
 ghost use mathlib.Core.Path.{_≡_};
 ghost use Rattle.codes.specs.Codes.{IsWidth};
-ghost use Rattle.codes.specs.declared.refusals.Outcome.the-variants.{Done};
 ghost use Rattle.given.specs.Face.{said, Part};
 ghost use Rattle.face.specs.Parts.{madePart, slicedPart, normalisedPart, leastPart};
-ghost use Rattle.order.specs.Order.{pairOutcome, pairOrder, isSecond};
 
 // The view itself, where it is accepted.
 pub fn made(
@@ -116,20 +112,6 @@ pub fn normalised(
     )
 }
 
-// Whether the second of two accepted views comes first.
-fn comes_second(w: usize, a: &[u8], ao: Chars, al: Chars, b: &[u8], bo: Chars, bl: Chars) -> bool
-    requires { ⌜ IsWidth w ⌝ }
-    requires { ⌜ pairOutcome w (now a) (ao .0) (al .0) (now b) (bo .0) (bl .0) ≡ Done ⌝ }
-    ensures { λ r. ⌜ r ≡ isSecond (pairOrder w (now (a .entry)) (ao .0) (al .0) (now (b .entry)) (bo .0) (bl .0)) ⌝ }
-{
-    let order = order_of(w, a, ao, al, b, bo, bl);
-    match order {
-        Order::Less => false,
-        Order::Equal => false,
-        Order::Greater => true,
-    }
-}
-
 // The part of whichever view comes first, and whether that is the second.
 pub fn least(
     w: usize,
@@ -153,29 +135,26 @@ pub fn least(
     let m = Chars::new(al);
     let y = Chars::new(bo);
     let n = Chars::new(bl);
-    match pair_outcome(w, a, x, m, b, y, n) {
-        Outcome::Refused(refusal) => {
-            *second = false;
-            give::part(
-                Outcome::Refused(refusal),
-                0,
-                0,
-                0,
-                0,
-                at,
-                size,
-                part_offset,
-                part_len,
-            )
-        }
+    let which = choose(w, a, x, m, b, y, n);
+    let outcome = which.outcome;
+    *second = which.second;
+    match outcome {
+        Outcome::Refused(refusal) => give::part(
+            Outcome::Refused(refusal),
+            0,
+            0,
+            0,
+            0,
+            at,
+            size,
+            part_offset,
+            part_len,
+        ),
         Outcome::Done => {
-            if comes_second(w, a, x, m, b, y, n) {
-                *second = true;
-                normalised(w, b, bo, bl, at, size, part_offset, part_len)
-            } else {
-                *second = false;
-                normalised(w, a, ao, al, at, size, part_offset, part_len)
+            if which.second {
+                return normalised(w, b, bo, bl, at, size, part_offset, part_len);
             }
+            normalised(w, a, ao, al, at, size, part_offset, part_len)
         }
     }
 }

@@ -1,14 +1,12 @@
 -- By what the view is, and the length of its part. Assumes nothing.
-use mathlib.Core.List.{List}
-use mathlib.Core.Path.{ap₂, _∙_}
+use mathlib.Core.Path.{ap, ap₂, _∙_}
 use Prim.Native.Nat.{ℕ, _/_, _%_}
 use lib.ListN.{length}
 use Rattle.codes.specs.Codes.{per}
-use Rattle.codes.specs.Refusals.{answer, first}
+use Rattle.codes.specs.Refusals.{answer}
 use Rattle.codes.specs.declared.refusals.Outcome.{Outcome}
-use Rattle.fields.specs.Fields.{viewTests, normalPart}
+use Rattle.fields.specs.Spans.{spanOf}
 use Rattle.given.specs.Face.{Part, noPart}
-use Rattle.face.specs.Parts.{normalisedPart}
 use Rattle.face.proofs.PartLaws.{part-bytes}
 use borrow.Author.Needs.{needs}
 use Rattle.face.proofs.inner.parts.normalised.Statement.{statement}
@@ -42,7 +40,6 @@ part-requires : tie.Need-part-requires
 part-requires c κs = tt
 
 returns : tie.Need-returns
-unfolding normalisedPart
 returns c =
     let k = c .before .before .before .before .before in
     let s = k .before .before .before .before in
@@ -56,8 +53,8 @@ returns c =
     let within = k .count2 .ensures ∙ rw new at (k .before .within-byte .ensures) in
     c .part .ensures
     ∙ ap₂ (λ (x y : ℕ). answer {A = Part} (s .before .view-outcome .result) (x, length (s .normal-part .result .now), y, a .len) noPart) at within
-    ∙ ap₂ (λ (p : Outcome) (bs : List ℕ). answer {A = Part} p (a .offset / per w, length bs, a .offset % per w, a .len) noPart) outcome bytes
-    ∙ part-bytes (first (viewTests w (length (a .bytes .now)) (a .offset) (a .len))) (a .offset / per w) (a .offset % per w) (a .len) (normalPart w (a .bytes .now) (a .offset) (a .len))
+    ∙ ap (λ (p : Outcome). answer {A = Part} p (a .offset / per w, length (s .normal-part .result .now), a .offset % per w, a .len) noPart) outcome
+    ∙ part-bytes (s .before .before .before .before .before .pre) (spanOf (a .bytes)) (spanOf (s .normal-part .result)) (a .offset) (a .len) bytes
 
 pub normalised-spec : {M : Type 1} → statement M
 normalised-spec =
