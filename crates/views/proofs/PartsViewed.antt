@@ -6,7 +6,7 @@ use mathlib.Core.Path.{_≡_, refl, sym, ap, _∙_}
 use Prim.Native.Nat.{ℕ, _+_, _-_}
 use lib.ListN.{length, take, drop}
 use Rattle.codes.specs.Codes.{IsWidth, chars}
-use Rattle.codes.specs.Refusals.{Answer, answer, first, ifDone, numberOf, badEnd, badStart}
+use Rattle.codes.specs.Refusals.{Answer, first, ifDone, numberOf, badEnd, badStart}
 use Rattle.codes.specs.declared.refusals.Outcome.{Outcome}
 use Rattle.codes.specs.declared.refusals.Outcome.the-variants.{Done, Refused}
 use Rattle.codes.proofs.CharLaws.{same-length}
@@ -14,7 +14,7 @@ use Rattle.fields.specs.Fields.{sliceTests}
 use Rattle.fields.specs.Spans.{Span}
 use Rattle.fields.proofs.ViewLaws.{slice-cut}
 use Rattle.views.specs.Views.{Lent, lent, empty, sliced, normalised}
-use Rattle.views.proofs.SliceLaws.{Holds, chars-between, normalised-holds}
+use Rattle.views.proofs.SliceLaws.{chars-between, normalised-holds}
 use Rattle.views.proofs.Viewed.{Same, viewed}
 
 -- the characters of a part
