@@ -67,7 +67,7 @@ module _ (w : ℕ) (xs : List ℕ) (ao al : ℕ) (bs : List ℕ) (bo bl : ℕ) (
       by-case Done false = refl
       by-case (Refused r) b = refl
 
-  pub least-refused : {n : ℕ} {p v : Part} (r : Refusal) → said n p ≡ answer (Refused r) v noPart → c .outcome ≡ Refused r → said {A = Bool × Part} n (c .second, p) ≡ leastPart w xs ao al bs bo bl
+  pub least-refused : {n : ℕ} {p : Part} (r : Refusal) → said n p ≡ answer (Refused r) noPart noPart → c .outcome ≡ Refused r → said {A = Bool × Part} n (c .second, p) ≡ leastPart w xs ao al bs bo bl
   least-refused r e d = chosen (e ∙ ap (λ (q : Outcome). partBy q (c .second)) (sym d))
 
   -- the normalised part of an accepted view
