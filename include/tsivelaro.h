@@ -229,12 +229,12 @@ TSIV_USE uint32_t tsiv_flags_eq(const uint8_t *a, size_t a_size, size_t a_offset
                                 size_t b_size, size_t b_offset, size_t b_len, bool *equal);
 
 /* *there: whether the pattern stands in the text; *place: the least place where it does, 0 where it does not. */
-TSIV_USE uint32_t tsiv_bases_find(const uint8_t *pattern, size_t pattern_size, size_t pattern_offset,
-                                  size_t pattern_len, const uint8_t *text, size_t text_size, size_t text_offset,
-                                  size_t text_len, bool *there, size_t *place);
-TSIV_USE uint32_t tsiv_flags_find(const uint8_t *pattern, size_t pattern_size, size_t pattern_offset,
-                                  size_t pattern_len, const uint8_t *text, size_t text_size, size_t text_offset,
-                                  size_t text_len, bool *there, size_t *place);
+TSIV_USE uint32_t tsiv_bases_find(const uint8_t *text, size_t text_size, size_t text_offset, size_t text_len,
+                                  const uint8_t *pattern, size_t pattern_size, size_t pattern_offset,
+                                  size_t pattern_len, bool *there, size_t *place);
+TSIV_USE uint32_t tsiv_flags_find(const uint8_t *text, size_t text_size, size_t text_offset, size_t text_len,
+                                  const uint8_t *pattern, size_t pattern_size, size_t pattern_offset,
+                                  size_t pattern_len, bool *there, size_t *place);
 
 /* *second: whether b comes first, not at a tie. The part, as tsiv_.._normalise gives it, lies in b's bytes if so, else in a's. */
 TSIV_USE uint32_t tsiv_bases_least(const uint8_t *a, size_t a_size, size_t a_offset, size_t a_len, const uint8_t *b,
@@ -285,11 +285,11 @@ TSIV_USE uint32_t tsiv_flags_cut(uint8_t *buffer, size_t buffer_size, size_t *le
  * BAD_STREAM for a context outside 1 to 2^31, a factor other than 1 and 2, a delay above 2^31, a first delay above the second.
  */
 
-/* *lane: n; *padding; *steps. BAD_STREAM. */
-TSIV_USE uint32_t tsiv_bases_shape(size_t len, size_t context, size_t factor, size_t *lane, size_t *padding,
-                                   size_t *steps);
-TSIV_USE uint32_t tsiv_flags_shape(size_t len, size_t context, size_t factor, size_t *lane, size_t *padding,
-                                   size_t *steps);
+/* *lane: n; *steps; *padding. BAD_STREAM. */
+TSIV_USE uint32_t tsiv_bases_shape(size_t len, size_t context, size_t factor, size_t *lane, size_t *steps,
+                                   size_t *padding);
+TSIV_USE uint32_t tsiv_flags_shape(size_t len, size_t context, size_t factor, size_t *lane, size_t *steps,
+                                   size_t *padding);
 
 /*
  * Writes step j, lane l to entry 8 j + l of out, for all steps, and of a buffer more for each delay; later entries stay. *steps: the
@@ -342,13 +342,14 @@ TSIV_USE uint32_t tsiv_flags_fill_windows(const uint8_t *bytes, size_t bytes_siz
                                           size_t *steps, size_t *padding);
 
 /*
- * The windows of one step: the state is eight lane counts and the step, all 0 at the start; the next state comes through next_counts
- * and *next_step. TOO_LONG, BAD_VIEW; BAD_STREAM also for a step at or past the steps, a count above k - 1, or a count that is below the
- * flag that leaves the window.
+ * The windows of one step. The state is eight lane counts and the step, all 0 at the start: it goes in, and the next one comes out, through
+ * counts and *step. Each lane's entering flag is added to its count; the answer is whether that sum is above 0; the flag k - 1 positions
+ * back is taken off. TOO_LONG, BAD_VIEW; BAD_STREAM also for a step at or past the steps, a count above k - 1, or a sum below the flag to
+ * take off. Refused, answers, counts and *step are all 0.
  */
 TSIV_USE uint32_t tsiv_flags_step_windows(const uint8_t *bytes, size_t bytes_size, size_t offset, size_t len,
-                                          size_t context, size_t k, const uint32_t counts[8], size_t step,
-                                          uint32_t answers[8], uint32_t next_counts[8], size_t *next_step);
+                                          size_t context, size_t k, uint32_t counts[8], size_t *step,
+                                          uint32_t answers[8]);
 
 /*
  * ---- The stored form, edition 1: byte 1; the length n in groups of seven bits, low group first, the top bit set on all but the last

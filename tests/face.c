@@ -82,7 +82,7 @@ static void worked(void)
     uint8_t ac[49] = {4}, act[49] = {36};
     HOLD(tsiv_bases_cmp_lcp(ac, 49, 0, 2, act, 49, 0, 3, &order, &a) == 0 && order == -1 && a == 2);
     HOLD(tsiv_bases_least(act, 49, 0, 3, ac, 49, 0, 2, &flag, &a, &b, &c, &d) == 0 && flag && d == 2);
-    HOLD(tsiv_bases_find(ac, 49, 1, 1, act, 49, 0, 3, &flag, &a) == 0 && flag && a == 1);
+    HOLD(tsiv_bases_find(act, 49, 0, 3, ac, 49, 1, 1, &flag, &a) == 0 && flag && a == 1);
     /* length 3, a view at in-byte offset 1 of length 2: 5 to 7 at width 2, 9 to 11 at width 1 */
     len = 3;
     HOLD(tsiv_bases_push_seq(bytes, 64, &len, ac, 49, 1, 2, &a, &b) == 0 && a == 5 && b == 7 && len == 7);
@@ -93,8 +93,8 @@ static void worked(void)
     HOLD(tsiv_bases_cut(bytes, 64, &len, 4) == TSIV_BAD_RANGE && len == 3);
     len = 99;
     HOLD(tsiv_bases_clear(bytes, 47, &len) == TSIV_NO_ROOM && len == 0);
-    HOLD(tsiv_bases_shape(10, 3, 1, &a, &b, &c) == 0 && a == 4 && b == 24 && c == 6);
-    HOLD(tsiv_flags_shape(10, 3, 1, &a, &b, &c) == 0 && a == 8 && b == 56 && c == 10);
+    HOLD(tsiv_bases_shape(10, 3, 1, &a, &b, &c) == 0 && a == 4 && b == 6 && c == 24);
+    HOLD(tsiv_flags_shape(10, 3, 1, &a, &b, &c) == 0 && a == 8 && b == 10 && c == 56);
     a = b = c = 7;
     HOLD(tsiv_bases_shape(10, 0, 1, &a, &b, &c) == TSIV_BAD_STREAM && a + b + c == 0);
 }
@@ -107,7 +107,7 @@ static void nulls(void)
     bool flag;
     size_t a, b, c, d, len;
     int32_t order;
-    uint32_t lanes[8], lanes1[8], lanes2[8], counts[8] = {0}, next[8];
+    uint32_t lanes[8], lanes1[8], lanes2[8], counts[8] = {0};
     HOLD(tsiv_pack_kmer_lossy(NULL, 0, &word) == 0 && word == 0);
     HOLD(tsiv_pack_kmer_u128_lossy(NULL, 0, &low, &high) == 0 && low == 0 && high == 0);
     HOLD(tsiv_unpack_kmer(1, 0, NULL, 0) == 0 && tsiv_unpack_kmer(1, 1, NULL, 0) == TSIV_NO_ROOM);
@@ -147,10 +147,24 @@ static void nulls(void)
     ONE_VIEW(flags);
     HOLD(tsiv_bases_unpack(bytes, 64, 0, 0, NULL, 0) == 0 && tsiv_bases_unpack(NULL, 0, 0, 0, one, 1) == TSIV_BAD_VIEW);
     HOLD(tsiv_flags_fill_windows(bytes, 64, 0, 0, 1, 1, 0, NULL, 0, &a, &b) == 0 && a == 0);
-    HOLD(tsiv_flags_step_windows(NULL, 0, 0, 0, 1, 1, counts, 0, lanes, next, &a) == TSIV_BAD_VIEW);
+    a = 0;
+    HOLD(tsiv_flags_step_windows(NULL, 0, 0, 0, 1, 1, counts, &a, lanes) == TSIV_BAD_VIEW && a == 0);
     HOLD(tsiv_form_write(bytes, 64, 0, 0, bytes, 64, 0, 0, NULL, 0, &a) == TSIV_NO_ROOM);
     HOLD(tsiv_form_read(NULL, 0, NULL, 0, NULL, 0, &len) == TSIV_BAD_FORM && len == 0);
     HOLD(one[0] == 5);
+}
+
+/* A window of one flag: the flag that enters is the one that leaves, so that a count of 0 is enough; a count above k - 1 is refused. */
+static void windows(void)
+{
+    uint8_t bytes[64] = {1};
+    uint32_t counts[8] = {0}, answers[8];
+    size_t step = 0;
+    HOLD(tsiv_flags_step_windows(bytes, 64, 0, 8, 1, 1, counts, &step, answers) == 0 && step == 1);
+    HOLD(answers[0] == 0xFFFFFFFF && answers[1] == 0 && counts[0] == 0);
+    counts[3] = 1;
+    HOLD(tsiv_flags_step_windows(bytes, 64, 0, 8, 1, 1, counts, &step, answers) == TSIV_BAD_STREAM);
+    HOLD(step == 0 && counts[3] == 0 && answers[0] == 0);
 }
 
 /* 2^28 bytes are taken, and one more is refused, in every call that has the limit. */
@@ -162,7 +176,7 @@ static void too_long(void)
     bool flag;
     size_t a, b, c, d, len = 0;
     int32_t order;
-    uint32_t lanes[8], lanes1[8], lanes2[8], counts[8] = {0}, next[8];
+    uint32_t lanes[8], lanes1[8], lanes2[8], counts[8] = {0};
     HOLD(big != NULL);
     if (big == NULL)
         return;
@@ -181,7 +195,7 @@ static void too_long(void)
     HOLD(tsiv_##W##_cmp_lcp(out, 64, 0, 1, big, more, 0, 1, &order, &a) == TSIV_TOO_LONG);                             \
     HOLD(tsiv_##W##_cmp(big, more, 0, 1, out, 64, 0, 1, &order) == TSIV_TOO_LONG);                                     \
     HOLD(tsiv_##W##_eq(out, 64, 0, 1, big, more, 0, 1, &flag) == TSIV_TOO_LONG);                                       \
-    HOLD(tsiv_##W##_find(out, 64, 0, 1, big, more, 0, 1, &flag, &a) == TSIV_TOO_LONG);                                 \
+    HOLD(tsiv_##W##_find(big, more, 0, 1, out, 64, 0, 1, &flag, &a) == TSIV_TOO_LONG);                                 \
     HOLD(tsiv_##W##_least(out, 64, 0, 1, big, more, 0, 1, &flag, &a, &b, &c, &d) == TSIV_TOO_LONG);                    \
     HOLD(tsiv_##W##_clear(big, more, &len) == TSIV_TOO_LONG && len == 0);                                              \
     HOLD(tsiv_##W##_push_ascii(big, more, &len, out, 1, &a, &b) == TSIV_TOO_LONG);                                     \
@@ -199,7 +213,8 @@ static void too_long(void)
     LARGE(flags);
     HOLD(tsiv_bases_unpack(big, more, 0, 1, out, 64) == TSIV_TOO_LONG);
     HOLD(tsiv_flags_fill_windows(big, more, 0, 1, 1, 1, 0, NULL, 0, &a, &b) == TSIV_TOO_LONG);
-    HOLD(tsiv_flags_step_windows(big, more, 0, 1, 1, 1, counts, 0, lanes, next, &a) == TSIV_TOO_LONG);
+    a = 0;
+    HOLD(tsiv_flags_step_windows(big, more, 0, 1, 1, 1, counts, &a, lanes) == TSIV_TOO_LONG && a == 0);
     HOLD(tsiv_form_write(big, more, 0, 1, out, 64, 0, 1, out + 50, 14, &a) == TSIV_TOO_LONG);
     HOLD(tsiv_form_read(big, more, out, 64, NULL, 0, &len) == TSIV_TOO_LONG);
     HOLD(tsiv_form_read(out, 64, big, more, NULL, 0, &len) == TSIV_TOO_LONG);
@@ -232,6 +247,7 @@ int main(void)
     rooms();
     worked();
     nulls();
+    windows();
     too_long();
     no_room();
     printf("face: %u passed, %u failed\n", passed, failed);

@@ -383,19 +383,16 @@ static void streams(size_t w)
 {
     struct buffer *v = input(below(120)), *x = make(4 * below(700)), *y = make(4 * below(700)),
                   *z = make(4 * below(700));
-    struct buffer *counts = input(32);
     size_t o, n, *steps = CELL(size_t), *padding = CELL(size_t), *lane = CELL(size_t), fx = 0, fy = 0, fz = 0;
     uint32_t no, *l = cell(32), *p = cell(32), *q = cell(32);
     view(w, v->size, &o, &n);
     size_t c = below(3) ? 1 + below(9) : number(n), f = below(8) ? 1 + below(2) : number(3), j = number(n / 8 + c);
     size_t d = below(4) ? below(12) : number(20), e = below(4) ? d + below(9) : number(20);
     size_t k = below(4) ? 1 + below(12) : number(96), skip = below(3) ? below(4) : number(20);
-    for (int i = 0; i < 8; i++)
-        entries(counts)[i] = below(3) ? 0 : (uint32_t)number(k);
 #define ENTRIES(b) entries(b), b->size / 4
 #define LANES(t) (t[0] | t[1] | t[2] | t[3] | t[4] | t[5] | t[6] | t[7])
     switch (below(w == 1 ? 9 : 7)) {
-    case 0: ZERO(BOTH(shape, n, c, f, lane, padding, steps), *lane | *padding | *steps); break;
+    case 0: ZERO(BOTH(shape, n, c, f, lane, steps, padding), *lane | *steps | *padding); break;
     case 1:
         ZERO(BOTH(fill, VIEW, c, f, ENTRIES(x), steps, padding), *steps | *padding);
         fx = no ? 0 : 32 * *steps;
@@ -417,7 +414,10 @@ static void streams(size_t w)
         fx = no ? 0 : 32 * *steps;
         break;
     default:
-        ZERO(ASK(flags_step_windows, VIEW, c, k, entries(counts), j, l, p, steps), LANES(l) | LANES(p) | *steps);
+        for (int i = 0; i < 8; i++)
+            p[i] = below(3) ? 0 : (uint32_t)number(k);
+        *steps = j;
+        ZERO(ASK(flags_step_windows, VIEW, c, k, p, steps, l), LANES(l) | LANES(p) | *steps);
         if (!no && *steps != j + 1)
             fail("the next step");
     }

@@ -124,7 +124,7 @@ fn finding(name: &str, text: &[u8], len: usize) -> Result<(), Refusal> {
     let view = bases::View::new(packed, Chars(0), LEN)?;
     let pattern = bases::View::new(packed, Chars(last), Chars(len))?;
     let same = |_: &(), a, b: Option<usize>| a == Ok(b.map(Chars)) && b == Some(last);
-    let ours = |_: &mut ()| pattern.find_in(view);
+    let ours = |_: &mut ()| view.find(pattern);
     let wanted = all.slice(last..LETTERS);
     if len <= 29 {
         let word = wanted.as_u64();

@@ -104,10 +104,10 @@ pub struct Pushed {
 pub struct Shape {
     /// The characters of a lane.
     pub lane: Chars,
-    /// The positions behind the last one that counts.
-    pub padding: Chars,
     /// The steps.
     pub steps: usize,
+    /// The positions behind the last one that counts.
+    pub padding: Chars,
 }
 
 /// What a fill wrote.

@@ -49,8 +49,8 @@ extern "C" {
     pub fn tsiv_flags_cmp(a: *const u8, a_size: usize, a_offset: usize, a_len: usize, b: *const u8, b_size: usize, b_offset: usize, b_len: usize, order: &mut i32) -> u32;
     pub fn tsiv_bases_eq(a: *const u8, a_size: usize, a_offset: usize, a_len: usize, b: *const u8, b_size: usize, b_offset: usize, b_len: usize, equal: &mut bool) -> u32;
     pub fn tsiv_flags_eq(a: *const u8, a_size: usize, a_offset: usize, a_len: usize, b: *const u8, b_size: usize, b_offset: usize, b_len: usize, equal: &mut bool) -> u32;
-    pub fn tsiv_bases_find(pattern: *const u8, pattern_size: usize, pattern_offset: usize, pattern_len: usize, text: *const u8, text_size: usize, text_offset: usize, text_len: usize, there: &mut bool, place: &mut usize) -> u32;
-    pub fn tsiv_flags_find(pattern: *const u8, pattern_size: usize, pattern_offset: usize, pattern_len: usize, text: *const u8, text_size: usize, text_offset: usize, text_len: usize, there: &mut bool, place: &mut usize) -> u32;
+    pub fn tsiv_bases_find(text: *const u8, text_size: usize, text_offset: usize, text_len: usize, pattern: *const u8, pattern_size: usize, pattern_offset: usize, pattern_len: usize, there: &mut bool, place: &mut usize) -> u32;
+    pub fn tsiv_flags_find(text: *const u8, text_size: usize, text_offset: usize, text_len: usize, pattern: *const u8, pattern_size: usize, pattern_offset: usize, pattern_len: usize, there: &mut bool, place: &mut usize) -> u32;
     pub fn tsiv_bases_least(a: *const u8, a_size: usize, a_offset: usize, a_len: usize, b: *const u8, b_size: usize, b_offset: usize, b_len: usize, second: &mut bool, at: &mut usize, size: &mut usize, part_offset: &mut usize, part_len: &mut usize) -> u32;
     pub fn tsiv_flags_least(a: *const u8, a_size: usize, a_offset: usize, a_len: usize, b: *const u8, b_size: usize, b_offset: usize, b_len: usize, second: &mut bool, at: &mut usize, size: &mut usize, part_offset: &mut usize, part_len: &mut usize) -> u32;
     pub fn tsiv_bases_clear(buffer: *mut u8, buffer_size: usize, len: &mut usize) -> u32;
@@ -63,8 +63,8 @@ extern "C" {
     pub fn tsiv_flags_overwrite(buffer: *mut u8, buffer_size: usize, len: &mut usize, start: usize, letters: *const u8, letters_size: usize) -> u32;
     pub fn tsiv_bases_cut(buffer: *mut u8, buffer_size: usize, len: &mut usize, m: usize) -> u32;
     pub fn tsiv_flags_cut(buffer: *mut u8, buffer_size: usize, len: &mut usize, m: usize) -> u32;
-    pub fn tsiv_bases_shape(len: usize, context: usize, factor: usize, lane: &mut usize, padding: &mut usize, steps: &mut usize) -> u32;
-    pub fn tsiv_flags_shape(len: usize, context: usize, factor: usize, lane: &mut usize, padding: &mut usize, steps: &mut usize) -> u32;
+    pub fn tsiv_bases_shape(len: usize, context: usize, factor: usize, lane: &mut usize, steps: &mut usize, padding: &mut usize) -> u32;
+    pub fn tsiv_flags_shape(len: usize, context: usize, factor: usize, lane: &mut usize, steps: &mut usize, padding: &mut usize) -> u32;
     pub fn tsiv_bases_fill(bytes: *const u8, bytes_size: usize, offset: usize, len: usize, context: usize, factor: usize, out: *mut u32, out_size: usize, steps: &mut usize, padding: &mut usize) -> u32;
     pub fn tsiv_flags_fill(bytes: *const u8, bytes_size: usize, offset: usize, len: usize, context: usize, factor: usize, out: *mut u32, out_size: usize, steps: &mut usize, padding: &mut usize) -> u32;
     pub fn tsiv_bases_fill_delayed(bytes: *const u8, bytes_size: usize, offset: usize, len: usize, context: usize, factor: usize, delay: usize, out: *mut u32, out_size: usize, delayed: *mut u32, delayed_size: usize, steps: &mut usize, padding: &mut usize) -> u32;
@@ -78,7 +78,7 @@ extern "C" {
     pub fn tsiv_bases_step_delayed_2(bytes: *const u8, bytes_size: usize, offset: usize, len: usize, context: usize, factor: usize, first: usize, second: usize, j: usize, lanes: &mut [u32; 8], lanes1: &mut [u32; 8], lanes2: &mut [u32; 8]) -> u32;
     pub fn tsiv_flags_step_delayed_2(bytes: *const u8, bytes_size: usize, offset: usize, len: usize, context: usize, factor: usize, first: usize, second: usize, j: usize, lanes: &mut [u32; 8], lanes1: &mut [u32; 8], lanes2: &mut [u32; 8]) -> u32;
     pub fn tsiv_flags_fill_windows(bytes: *const u8, bytes_size: usize, offset: usize, len: usize, context: usize, k: usize, skip: usize, out: *mut u32, out_size: usize, steps: &mut usize, padding: &mut usize) -> u32;
-    pub fn tsiv_flags_step_windows(bytes: *const u8, bytes_size: usize, offset: usize, len: usize, context: usize, k: usize, counts: &[u32; 8], step: usize, answers: &mut [u32; 8], next_counts: &mut [u32; 8], next_step: &mut usize) -> u32;
+    pub fn tsiv_flags_step_windows(bytes: *const u8, bytes_size: usize, offset: usize, len: usize, context: usize, k: usize, counts: &mut [u32; 8], step: &mut usize, answers: &mut [u32; 8]) -> u32;
     pub fn tsiv_form_write(bases: *const u8, bases_size: usize, base_offset: usize, base_len: usize, flags: *const u8, flags_size: usize, flag_offset: usize, flag_len: usize, out: *mut u8, out_size: usize, written: &mut usize) -> u32;
     pub fn tsiv_form_read(form: *const u8, form_size: usize, bases: *mut u8, bases_size: usize, flags: *mut u8, flags_size: usize, len: &mut usize) -> u32;
 }

@@ -22,15 +22,15 @@ macro_rules! width {
 
             /// The numbers of a stream over `len` characters.
             pub fn shape(len: Chars, context: Chars, factor: usize) -> Result<Shape, Refusal> {
-                let (mut lane, mut padding, mut steps) = (0, 0, 0);
+                let (mut lane, mut steps, mut padding) = (0, 0, 0);
                 // SAFETY: the numbers behind the pointers are ours.
                 let number = unsafe {
-                    call::shape(len.0, context.0, factor, &mut lane, &mut padding, &mut steps)
+                    call::shape(len.0, context.0, factor, &mut lane, &mut steps, &mut padding)
                 };
                 Refusal::check(number).map(|()| Shape {
                     lane: Chars(lane),
-                    padding: Chars(padding),
                     steps,
+                    padding: Chars(padding),
                 })
             }
 
@@ -255,14 +255,14 @@ macro_rules! width {
                     Refusal::check(number).map(|()| equal)
                 }
 
-                /// The least place where it stands in a text.
-                pub fn find_in(self, text: View<'_>) -> Result<Option<Chars>, Refusal> {
+                /// The least place where a pattern stands in it.
+                pub fn find(self, pattern: View<'_>) -> Result<Option<Chars>, Refusal> {
                     let (mut there, mut place) = (false, 0);
                     // SAFETY: as in `cmp_lcp`.
                     let number = unsafe {
                         call::find(
                             self.bytes.as_ptr(), self.bytes.len(), self.offset.0, self.len.0,
-                            text.bytes.as_ptr(), text.bytes.len(), text.offset.0, text.len.0,
+                            pattern.bytes.as_ptr(), pattern.bytes.len(), pattern.offset.0, pattern.len.0,
                             &mut there, &mut place,
                         )
                     };
@@ -635,11 +635,11 @@ impl flags::View<'_> {
         self,
         context: Chars,
         k: Chars,
-        state: Windows,
+        mut state: Windows,
     ) -> Result<([u32; 8], Windows), Refusal> {
-        let (mut answers, mut next) = ([0; 8], Windows::default());
+        let mut answers = [0; 8];
         let (b, n) = (self.bytes().as_ptr(), self.bytes().len());
-        // SAFETY: the slice's own pointer and length.
+        // SAFETY: the slice's own pointer and length; the numbers behind the pointers are ours.
         let number = unsafe {
             sys::tsiv_flags_step_windows(
                 b,
@@ -648,13 +648,11 @@ impl flags::View<'_> {
                 self.len().0,
                 context.0,
                 k.0,
-                &state.counts,
-                state.step,
+                &mut state.counts,
+                &mut state.step,
                 &mut answers,
-                &mut next.counts,
-                &mut next.step,
             )
         };
-        Refusal::check(number).map(|()| (answers, next))
+        Refusal::check(number).map(|()| (answers, state))
     }
 }

@@ -1,6 +1,6 @@
 -- Each answer of this crate can be made again from what it says.
 -- Assumes nothing.
-use mathlib.Core.Path.{_≡_, refl, sym, ap}
+use mathlib.Core.Path.{_≡_, sym, ap}
 use Prim.Native.Nat.{ℕ}
 use Rattle.codes.specs.Answers.{symbolSays, wordSays, word128Says}
 use Rattle.codes.specs.declared.letters.Symbol.{Symbol}

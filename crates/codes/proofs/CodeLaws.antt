@@ -1,14 +1,14 @@
 -- The laws of codes: each is a character of its width, and a byte that is none of the eight letters has no strict code.
 -- Assumes nothing.
 use mathlib.Core.Bool.{Bool, true, false}
-use mathlib.Core.List.{List, [], _∷_, _++_}
+use mathlib.Core.List.{List, [], _∷_}
 use mathlib.Core.Path.{_≡_, refl}
-use Prim.Native.Nat.{ℕ, suc, _^_, _<_, _/_}
+use Prim.Native.Nat.{ℕ, _^_, _<_, _/_}
 use native.Mathlib.Decide.{ℕ-discrete}
 use native.Mathlib.Nat.{lt-of-lt-of-le, mod-lt}
 use native.Mathlib.Omega.{arith}
 use lib.Bits.{xor-lt}
-use lib.Dec.{eqb, ltb, lit<}
+use lib.Dec.{ltb, lit<}
 use lib.ListN.{length}
 use lib.Pow.{pow-mono}
 use borrow.Author.Tests.{eq-eqb, ne-eqb}

@@ -1,7 +1,7 @@
 -- For each public call: any two permitted outcomes coincide.
 -- Assumes nothing.
 use denote.Ref.{now}
-use mathlib.Core.Path.{_≡_, sym, ap, _∙_}
+use mathlib.Core.Path.{sym, ap, _∙_}
 use Prim.Native.Nat.{ℕ}
 use Rattle.codes.specs.declared.units.Chars.{Chars}
 use Rattle.codes.specs.declared.units.Bytes.{Bytes}

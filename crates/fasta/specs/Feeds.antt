@@ -22,7 +22,7 @@ pub record Way : Type 0 where
   pub flags : List ℕ
   pub other : List ℕ
 
--- what its next step looks at: the rest of the part, or nothing where fewer than 96 bytes are left of out
+-- what its next step looks at: the rest of the part, or nothing where fewer than 96 bytes are left of out, the text behind the bytes in use
 abbrev pub ahead : List ℕ → List ℕ → Way → List ℕ
 ahead part out w = seen (drop (w .done .used) part) (drop (length (w .done .written)) out)
 
@@ -43,11 +43,11 @@ unfoldable pub along : ℕ → List ℕ → List ℕ → Way → Way
 along zero part out w = w
 along (suc n) part out w = further part out (along n part out w)
 
--- the whole feed: a step takes at least a byte while there are bytes and room, and else changes nothing
+-- the whole feed: as many steps as the part has bytes. A step takes one or more while there are bytes and room, and else changes nothing
 abbrev pub feeding : Reader → List ℕ → List ℕ → List ℕ → List ℕ → List ℕ → Way
 feeding reader part bases flags other out = along (length part) part out (record { done = move reader 0 []; bases = bases; flags = flags; other = other })
 
--- what is left to do, with bytes left to feed or none
+-- what is left to do: read on, or write the text out where there is more to feed; stop after the report
 abbrev pub thenAfter : Reader → Bool → Then
 thenAfter Reader.Start more = pick more Then.Write Then.Read
 thenAfter (Reader.Header i) more = pick more Then.Write Then.Read
@@ -71,6 +71,6 @@ pub record Leaves (part lent : List ℕ) (filled : ℕ) (w : Way) (r : Fed) (bas
   pub other : other′ ≡ w .other
   pub text : text′ ≡ behind filled (w .done .written) lent
 
--- the end of the input: the last lines complete the report
+-- the end of the input: the last lines complete the report, if there is room for them
 abbrev pub atEnd : Reader → List ℕ → List ℕ → List ℕ → Move
 atEnd reader bases flags out = move (pick (tooShort out) reader Reader.Ended) 0 (lastLines reader bases flags out)

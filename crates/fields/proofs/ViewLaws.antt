@@ -44,7 +44,8 @@ module _ {w : ℕ} (W : IsWidth w) {n o len : ℕ} (room : Room w n o len) where
   -- and the normalised part is within them
   pub room-end : up w (o + len) + trailing ≤ n
   room-end =
-      let h : up w (o + len) ≤ n - trailing = subst (λ (x : ℕ). up w (o + len) ≤ x) (up-whole W (n - trailing)) (up-mono W (o + len) ((n - trailing) * per w) (omega (arith, room .fits, less-trailing n (per w) room-pad))) in
+      let fits : o + len ≤ (n - trailing) * per w = omega (arith, room .fits, less-trailing n (per w) room-pad) in
+      let h : up w (o + len) ≤ n - trailing = subst (λ (x : ℕ). up w (o + len) ≤ x) (up-whole W (n - trailing)) (up-mono W (o + len) ((n - trailing) * per w) fits) in
       omega (arith, room-pad)
 
   pub room-start : o / per w ≤ up w (o + len) + trailing
@@ -59,7 +60,9 @@ module _ {w : ℕ} (W : IsWidth w) (s : Span) (o len : ℕ) (room : Room w (leng
   unfolding charAt
   normal-char i h =
       ap (λ (x : ℕ). x / 2 ^ (w * ((o % per w + i) % per w)) % 2 ^ w)
-      (getD-take (up w (o + len) + trailing - o / per w) (drop (o / per w) bs) ((o % per w + i) / per w) 0 within ∙ getD-drop (o / per w) bs ((o % per w + i) / per w) 0 ∙ ap (λ (b : ℕ). getD bs b 0) byte)
+      (getD-take (up w (o + len) + trailing - o / per w) (drop (o / per w) bs) ((o % per w + i) / per w) 0 within
+      ∙ getD-drop (o / per w) bs ((o % per w + i) / per w) 0
+      ∙ ap (λ (b : ℕ). getD bs b 0) byte)
       ∙ ap (λ (k : ℕ). getD bs ((o + i) / per w) 0 / 2 ^ (w * k) % 2 ^ w) digit
     where
       split : o / per w * per w + (o % per w + i) ≡ o + i

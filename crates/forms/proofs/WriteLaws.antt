@@ -1,11 +1,10 @@
 -- A list that is written over another, behind what was written; and a run of zeros behind it.
 -- Assumes nothing.
-use mathlib.Core.List.{List, [], _∷_, _++_, append-assoc, append-nil}
-use mathlib.Core.Path.{_≡_, refl, sym, ap, ap₂, _∙_}
+use mathlib.Core.List.{List, [], _∷_, _++_, append-assoc}
+use mathlib.Core.Path.{_≡_, refl, _∙_}
 use Prim.Native.Nat.{ℕ, _+_, _-_, _≤_, _<_}
-use native.Mathlib.Nat.{le-of-eq, not-suc-le-zero}
-use lib.ListN.{length, take, drop, set, replicate, length-drop, drop-of-length-le}
-use lib.Seq.{take-all, take-at, drop-at, drop-drop}
+use native.Mathlib.Nat.{not-suc-le-zero}
+use lib.ListN.{length, take, drop, set, replicate}
 use Rattle.codes.specs.Made.{Made}
 use Rattle.codes.proofs.MadeLaws.{made-zeros}
 use Rattle.codes.proofs.Turns.{put-on}

@@ -2,14 +2,14 @@
 -- of the outcome, the lengths and the characters alone.
 -- Assumes nothing.
 use mathlib.Core.Bool.{Bool, true, false}
-use mathlib.Core.List.{List, []}
-use mathlib.Core.Path.{_≡_, refl, sym, ap, _∙_}
-use Prim.Native.Nat.{ℕ, _+_, _-_, _*_, _%_, _^_}
+use mathlib.Core.List.{List}
+use mathlib.Core.Path.{_≡_, sym, _∙_}
+use Prim.Native.Nat.{ℕ, _+_, _-_, _*_, _^_}
 use lib.Dec.{ltb}
 use lib.IntN.{pos}
 use lib.ListN.{length}
 use Rattle.codes.specs.Codes.{IsWidth, per, chars, pick, trailing}
-use Rattle.codes.specs.Refusals.{answer, first, ifDone, numberOf}
+use Rattle.codes.specs.Refusals.{answer, first}
 use Rattle.codes.specs.declared.refusals.Outcome.{Outcome}
 use Rattle.codes.specs.declared.refusals.Outcome.the-variants.{Done}
 use Rattle.order.specs.Order.{pairOutcome, pairOrder, pairTests, compare, common, placeOf, orderNumber, compared, ordered, isEqual, equalled, placed, found, isSecond, chosen}
@@ -71,10 +71,11 @@ module _ {w : ℕ} {us : List ℕ} {ao al : ℕ} {xs : List ℕ} {xo xl : ℕ} (
 
   pub found-viewed : found w us ao al bs bo bl ≡ found w xs xo xl ys yo yl
   unfolding found
-  found-viewed = pair-viewed (λ q cs ds. answer q (placed (placeOf cs ds)) (false, 0))
+  found-viewed = pair-viewed (λ q cs ds. answer q (placed (placeOf ds cs)) (false, 0))
 
 -- the part that comes first: its number, its length and its characters. Its bytes, their place and its offset within a byte are its own
-module _ {w : ℕ} (W : IsWidth w) (s : Span) {ao al : ℕ} (x : Span) {xo xl : ℕ} (e : Same w (s .bytes) ao al (x .bytes) xo xl) (t : Span) {bo bl : ℕ} (y : Span) {yo yl : ℕ} (f : Same w (t .bytes) bo bl (y .bytes) yo yl) where
+module _ {w : ℕ} (W : IsWidth w) (s : Span) {ao al : ℕ} (x : Span) {xo xl : ℕ} (e : Same w (s .bytes) ao al (x .bytes) xo xl)
+    (t : Span) {bo bl : ℕ} (y : Span) {yo yl : ℕ} (f : Same w (t .bytes) bo bl (y .bytes) yo yl) where
   abbrev mine : Lent
   mine = chosen w s ao al t bo bl .values
 

@@ -89,9 +89,9 @@ module _ (w : ℕ) (xs : List ℕ) (ao al : ℕ) (bs : List ℕ) (bo bl : ℕ) w
   unfoldable pub equalled : Answer Bool
   equalled = answer pairOutcome (isEqual pairOrder) false
 
-  -- the pattern is the first view, the text the second
+  -- the text is the first view, the pattern the second
   unfoldable pub found : Answer (Bool × ℕ)
-  found = answer pairOutcome (placed (placeOf (chars w xs ao al) (chars w bs bo bl))) (false, 0)
+  found = answer pairOutcome (placed (placeOf (chars w bs bo bl) (chars w xs ao al))) (false, 0)
 
   -- which of the two comes first
   abbrev pub choice : Choice

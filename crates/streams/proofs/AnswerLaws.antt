@@ -16,11 +16,11 @@ abbrev count : ℕ → Chars
 count n = record { 0 = n }
 
 abbrev shapeOf : Outcome → ℕ × ℕ × ℕ → Shape
-shapeOf Done v = Shape.Is (count (v .0)) (count (v .1)) (v .2)
+shapeOf Done v = Shape.Is (count (v .0)) (v .1) (count (v .2))
 shapeOf (Refused r) v = Shape.Refused r
 
 shape-back : (r : Shape) → r ≡ shapeOf (outcomeAt (shapeSays r .no)) (shapeSays r .values)
-shape-back (Shape.Is n padding steps) = sym (ap (λ (o : Outcome). shapeOf o (n .0, padding .0, steps)) (outcomeAt-number Done))
+shape-back (Shape.Is n steps padding) = sym (ap (λ (o : Outcome). shapeOf o (n .0, steps, padding .0)) (outcomeAt-number Done))
 shape-back (Shape.Refused r) = sym (ap (λ (o : Outcome). shapeOf o (0, 0, 0)) (outcomeAt-number (Refused r)))
 
 pub shape-told : Told shapeSays

@@ -8,9 +8,9 @@ use Rattle.streams.specs.declared.answers.Shape.the-variants as Shape
 use Rattle.streams.specs.declared.answers.Filled.{Filled}
 use Rattle.streams.specs.declared.answers.Filled.the-variants as Filled
 
--- lane length, padding and steps
+-- lane length, steps and padding
 abbrev pub shapeSays : Shape → Answer (ℕ × ℕ × ℕ)
-shapeSays (Shape.Is lane padding steps) = answer Done (lane .0, padding .0, steps) (0, 0, 0)
+shapeSays (Shape.Is lane steps padding) = answer Done (lane .0, steps, padding .0) (0, 0, 0)
 shapeSays (Shape.Refused r) = answer (Refused r) (0, 0, 0) (0, 0, 0)
 
 -- the steps written, and the padding

@@ -10,9 +10,9 @@ use Rattle.codes.specs.declared.refusals.Outcome.{Outcome}
 use Rattle.codes.specs.declared.refusals.Refusal.the-variants.{BadStream}
 use Rattle.lanes.specs.Lanes.{lane, padding, steps, badShape, lanes, filled, streamTests}
 
--- lane length, padding and steps
+-- lane length, steps and padding
 unfoldable pub shaped : ℕ → ℕ → ℕ → ℕ → Answer (ℕ × ℕ × ℕ)
-shaped w len c f = answer (first (badShape c f ∷ [])) (lane w len c f, padding w len c f, steps w len c f) (0, 0, 0)
+shaped w len c f = answer (first (badShape c f ∷ [])) (lane w len c f, steps w len c f, padding w len c f) (0, 0, 0)
 
 -- an output buffer shorter than the entries
 abbrev pub roomTests : ℕ → List ℕ → List Test

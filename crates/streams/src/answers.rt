@@ -6,8 +6,8 @@ use codes::units::Chars;
 pub enum Shape {
     Is {
         lane: Chars,
-        padding: Chars,
         steps: usize,
+        padding: Chars,
     },
     Refused(Refusal),
 }

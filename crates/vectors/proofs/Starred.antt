@@ -46,7 +46,7 @@ pub starred :
     × (span 2 3 (pushSeq [] 1 2) ≡ (5, 7, 7))
     × (span 1 3 (pushSeq [] 1 2) ≡ (9, 11, 11))
     -- length 10, c = 3, f = 1, width 2
-    × (shaped 2 10 3 1 ≡ answer Done (4, 24, 6) (0, 0, 0))
+    × (shaped 2 10 3 1 ≡ answer Done (4, 6, 24) (0, 0, 0))
     -- the stored form of ACGTN
     × (stored (codes (65 ∷ 67 ∷ 71 ∷ 84 ∷ 78 ∷ [])) (map flag (65 ∷ 67 ∷ 71 ∷ 84 ∷ 78 ∷ [])) ≡ 0x01 ∷ 0x05 ∷ 0xb4 ∷ 0x03 ∷ 0x10 ∷ [])
 unfolding word charsOf flip compare common lane padding steps shaped stored spelt packed pack tab flag strict

@@ -8,5 +8,6 @@ pub mod NormalWalk
 pub mod SliceLaws
 pub mod ReadWalk
 pub mod Viewed
+pub mod PartsViewed
 pub mod Decided
 pub mod Lowest

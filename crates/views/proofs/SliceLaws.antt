@@ -56,7 +56,10 @@ module _ {w : ℕ} (s : Span) (o len : ℕ) (e : first (viewTests w (length (s .
       let d : first (sliceTests w (length (s .bytes)) o len start end) ≡ Done = first-done (viewTests w (length (s .bytes)) o len) (badEnd len end ∷ badStart start end ∷ []) e
       ∙ first-next (ltb len end) BadRange (badStart start end ∷ []) (le-ltb len end m) ∙ first-next (ltb end start) BadRange [] (le-ltb end start l) in
       held (lent s (o + start) (end - start)) (empty s) d
-      (record { accepted = room-done w (length (s .bytes)) (o + start) (end - start) (record { small = r .small; fits = omega (arith, r .fits) }); characters = chars-between w (s .bytes) o len start end l m })
+      (record {
+        accepted = room-done w (length (s .bytes)) (o + start) (end - start) (record { small = r .small; fits = omega (arith, r .fits) });
+        characters = chars-between w (s .bytes) o len start end l m;
+      })
 
   pub normal-holds : IsWidth w → Holds w (chars w (s .bytes) o len) (normal w s o len)
   normal-holds W =

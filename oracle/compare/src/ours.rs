@@ -114,7 +114,7 @@ macro_rules! width {
                     40 => told(a.cmp_lcp(b).map(|(order, n)| [sign(order), n.0 as u64])),
                     41 => told(a.eq(b).map(|equal| [equal.into()])),
                     42 => told(a.cmp(b).map(|order| [sign(order)])),
-                    43 => told(a.find_in(b).map(|found| {
+                    43 => told(b.find(a).map(|found| {
                         let place = found.unwrap_or_default().0 as u64;
                         [found.is_some().into(), place]
                     })),

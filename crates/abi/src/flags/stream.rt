@@ -13,12 +13,12 @@ pub extern "C" fn tsiv_flags_shape(
     context: usize,
     factor: usize,
     lane: &mut usize,
-    padding: &mut usize,
     steps: &mut usize,
+    padding: &mut usize,
 ) -> u32
-    ensures { λ r. ⌜ said r (now (lane .exit), now (padding .exit), now (steps .exit)) ≡ shaped 1 len context factor ⌝ }
+    ensures { λ r. ⌜ said r (now (lane .exit), now (steps .exit), now (padding .exit)) ≡ shaped 1 len context factor ⌝ }
 {
-    stream::shape(1, len, context, factor, lane, padding, steps)
+    stream::shape(1, len, context, factor, lane, steps, padding)
 }
 
 #[no_mangle]

@@ -32,27 +32,16 @@ pub extern "C" fn tsiv_flags_step_windows(
     len: usize,
     context: usize,
     k: usize,
-    counts: &[u32; 8],
-    step: usize,
+    counts: &mut [u32; 8],
+    step: &mut usize,
     answers: &mut [u32; 8],
-    next_counts: &mut [u32; 8],
-    next_step: &mut usize,
 ) -> u32
-    ensures number { λ r. ⌜ r ≡ numberOf (runOutcome (now (bytes .entry)) offset len context k (state (now (counts .entry)) step)) ⌝ }
-    ensures answers { λ _. ⌜ now (answers .exit) ≡ runAnswers (now (bytes .entry)) offset len context k (state (now (counts .entry)) step) ⌝ }
-    ensures state { λ _. ⌜ state (now («next_counts» .exit)) (now («next_step» .exit))
-        ≡ runState (now (bytes .entry)) offset len context k (state (now (counts .entry)) step) ⌝ }
+    ensures number { λ r. ⌜ r
+        ≡ numberOf (runOutcome (now (bytes .entry)) offset len context k (state (now (counts .entry)) (now (step .entry)))) ⌝ }
+    ensures answers { λ _. ⌜ now (answers .exit)
+        ≡ runAnswers (now (bytes .entry)) offset len context k (state (now (counts .entry)) (now (step .entry))) ⌝ }
+    ensures state { λ _. ⌜ state (now (counts .exit)) (now (step .exit))
+        ≡ runState (now (bytes .entry)) offset len context k (state (now (counts .entry)) (now (step .entry))) ⌝ }
 {
-    window::step(
-        bytes,
-        offset,
-        len,
-        context,
-        k,
-        counts,
-        step,
-        answers,
-        next_counts,
-        next_step,
-    )
+    window::step(bytes, offset, len, context, k, counts, step, answers)
 }

@@ -22,7 +22,7 @@ fn of_bases<'a>(call: u64, a: &'a [u8], ao: Chars, al: Chars, b: &'a [u8], bo: C
         40 => print::compared(bases::cmp_lcp(a, ao, al, b, bo, bl)),
         41 => print::equality(bases::eq(a, ao, al, b, bo, bl)),
         42 => print::ordered(bases::cmp(a, ao, al, b, bo, bl)),
-        43 => print::found(bases::find(a, ao, al, b, bo, bl)),
+        43 => print::found(bases::find(b, bo, bl, a, ao, al)),
         44 => {
             print::least(bases::least_numbers(a, ao, al, b, bo, bl));
             print::bytes(bases::least(a, ao, al, b, bo, bl));
@@ -36,7 +36,7 @@ fn of_flags<'a>(call: u64, a: &'a [u8], ao: Chars, al: Chars, b: &'a [u8], bo: C
         40 => print::compared(flags::cmp_lcp(a, ao, al, b, bo, bl)),
         41 => print::equality(flags::eq(a, ao, al, b, bo, bl)),
         42 => print::ordered(flags::cmp(a, ao, al, b, bo, bl)),
-        43 => print::found(flags::find(a, ao, al, b, bo, bl)),
+        43 => print::found(flags::find(b, bo, bl, a, ao, al)),
         44 => {
             print::least(flags::least_numbers(a, ao, al, b, bo, bl));
             print::bytes(flags::least(a, ao, al, b, bo, bl));

@@ -5,7 +5,7 @@ use crate::letters::char_is_ambiguous;
 use crate::letters::pack_char_lossy;
 use crate::units::Chars;
 ghost use mathlib.Core.Path.{_≡_};
-ghost use Prim.Native.Nat.{ℕ, _+_, _*_, _/_, _%_, _^_, _≤_, _<_};
+ghost use Prim.Native.Nat.{_+_, _*_, _/_, _%_, _^_, _≤_, _<_};
 ghost use lib.ListN.{length};
 ghost use Rattle.codes.specs.Codes.{IsWidth, per, charAt, code};
 ghost use Rattle.codes.specs.Made.{Made};

@@ -93,27 +93,27 @@ pub fn eq(
 
 pub fn find(
     w: usize,
-    pattern: &[u8],
-    po: usize,
-    pl: usize,
     text: &[u8],
     to: usize,
     tl: usize,
+    pattern: &[u8],
+    po: usize,
+    pl: usize,
     there: &mut bool,
     place: &mut usize,
 ) -> u32
     requires { ⌜ IsWidth w ⌝ }
-    ensures { λ r. ⌜ said r (now (there .exit), now (place .exit)) ≡ found w (now (pattern .entry)) po pl (now (text .entry)) to tl ⌝ }
+    ensures { λ r. ⌜ said r (now (there .exit), now (place .exit)) ≡ found w (now (text .entry)) to tl (now (pattern .entry)) po pl ⌝ }
 {
     give::found(
         find_views(
             w,
-            pattern,
-            Chars::new(po),
-            Chars::new(pl),
             text,
             Chars::new(to),
             Chars::new(tl),
+            pattern,
+            Chars::new(po),
+            Chars::new(pl),
         ),
         there,
         place,

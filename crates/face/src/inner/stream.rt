@@ -18,17 +18,17 @@ pub fn shape(
     context: usize,
     factor: usize,
     lane: &mut usize,
-    padding: &mut usize,
     steps: &mut usize,
+    padding: &mut usize,
 ) -> u32
     requires { ⌜ IsWidth w ⌝ }
-    ensures { λ r. ⌜ said r (now (lane .exit), now (padding .exit), now (steps .exit)) ≡ shaped w len context factor ⌝ }
+    ensures { λ r. ⌜ said r (now (lane .exit), now (steps .exit), now (padding .exit)) ≡ shaped w len context factor ⌝ }
 {
     give::shape(
         shapes::shape(w, Chars::new(len), Chars::new(context), factor),
         lane,
-        padding,
         steps,
+        padding,
     )
 }
 

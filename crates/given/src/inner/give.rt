@@ -197,24 +197,24 @@ pub fn kept(answer: Kept, len: &mut usize) -> u32
     }
 }
 
-pub fn shape(answer: Shape, lane: &mut usize, padding: &mut usize, steps: &mut usize) -> u32
-    ensures { λ r. ⌜ said r (now (lane .exit), now (padding .exit), now (steps .exit)) ≡ shapeSays answer ⌝ }
+pub fn shape(answer: Shape, lane: &mut usize, steps: &mut usize, padding: &mut usize) -> u32
+    ensures { λ r. ⌜ said r (now (lane .exit), now (steps .exit), now (padding .exit)) ≡ shapeSays answer ⌝ }
 {
     match answer {
         Shape::Is {
             lane: a,
-            padding: b,
-            steps: c,
+            steps: b,
+            padding: c,
         } => {
             *lane = a.count();
-            *padding = b.count();
-            *steps = c;
+            *steps = b;
+            *padding = c.count();
             0
         }
         Shape::Refused(refusal) => {
             *lane = 0;
-            *padding = 0;
             *steps = 0;
+            *padding = 0;
             refusal_no(refusal)
         }
     }

@@ -70,12 +70,12 @@ fn find_at(w: usize, p: &[u8], po: usize, pl: usize, t: &[u8], to: usize, tl: us
     answer
 }
 
-// The least place where the first view stands in the second.
-pub fn find_views(w: usize, p: &[u8], po: Chars, pl: Chars, t: &[u8], to: Chars, tl: Chars) -> Found
+// The least place in the first view where the second stands.
+pub fn find_views(w: usize, t: &[u8], to: Chars, tl: Chars, p: &[u8], po: Chars, pl: Chars) -> Found
     requires { ⌜ IsWidth w ⌝ }
-    ensures { λ r. ⌜ foundSays r ≡ found w (now (p .entry)) (po .0) (pl .0) (now (t .entry)) (to .0) (tl .0) ⌝ }
+    ensures { λ r. ⌜ foundSays r ≡ found w (now (t .entry)) (to .0) (tl .0) (now (p .entry)) (po .0) (pl .0) ⌝ }
 {
-    match pair_outcome(w, p, po, pl, t, to, tl) {
+    match pair_outcome(w, t, to, tl, p, po, pl) {
         Outcome::Refused(refusal) => Found::Refused(refusal),
         Outcome::Done => find_at(w, p, po.count(), pl.count(), t, to.count(), tl.count()),
     }

@@ -46,21 +46,22 @@ pub fn step(
     len: usize,
     context: usize,
     k: usize,
-    counts: &[u32; 8],
-    step: usize,
+    counts: &mut [u32; 8],
+    step: &mut usize,
     answers: &mut [u32; 8],
-    next_counts: &mut [u32; 8],
-    next_step: &mut usize,
 ) -> u32
-    ensures number { λ r. ⌜ r ≡ numberOf (runOutcome (now (bytes .entry)) offset len context k (state (now (counts .entry)) step)) ⌝ }
-    ensures answers { λ _. ⌜ now (answers .exit) ≡ runAnswers (now (bytes .entry)) offset len context k (state (now (counts .entry)) step) ⌝ }
-    ensures state { λ _. ⌜ state (now («next_counts» .exit)) (now («next_step» .exit))
-        ≡ runState (now (bytes .entry)) offset len context k (state (now (counts .entry)) step) ⌝ }
+    ensures number { λ r. ⌜ r
+        ≡ numberOf (runOutcome (now (bytes .entry)) offset len context k (state (now (counts .entry)) (now (step .entry)))) ⌝ }
+    ensures answers { λ _. ⌜ now (answers .exit)
+        ≡ runAnswers (now (bytes .entry)) offset len context k (state (now (counts .entry)) (now (step .entry))) ⌝ }
+    ensures state { λ _. ⌜ state (now (counts .exit)) (now (step .exit))
+        ≡ runState (now (bytes .entry)) offset len context k (state (now (counts .entry)) (now (step .entry))) ⌝ }
 {
     let before = *counts;
+    let at = *step;
     let state = Windows {
         counts: before,
-        step,
+        step: at,
     };
     let ran = step_windows(
         bytes,
@@ -75,7 +76,7 @@ pub fn step(
     let after = next.counts;
     let outcome = ran.outcome;
     *answers = windows;
-    *next_counts = after;
-    *next_step = next.step;
+    *counts = after;
+    *step = next.step;
     give::no(outcome)
 }

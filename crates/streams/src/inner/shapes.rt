@@ -19,7 +19,7 @@ pub fn shape(w: usize, len: Chars, context: Chars, factor: usize) -> Shape
     let p = plan_of(w, len, context, factor);
     Shape::Is {
         lane: Chars::new(p.lane),
-        padding: Chars::new(p.padding),
         steps: p.steps,
+        padding: Chars::new(p.padding),
     }
 }

@@ -1,5 +1,4 @@
 -- The code's test is the definition's. Assumes nothing.
-use mathlib.Core.Path.{refl}
 use borrow.Author.Tests.{lt-ltb, le-ltb}
 use Rattle.codes.proofs.letters.complement_base.Statement.{statement}
 use Rattle.codes.proofs.letters.complement_base.Tie as tie

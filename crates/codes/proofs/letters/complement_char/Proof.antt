@@ -1,5 +1,4 @@
 -- Four capitals by computation, and no other byte. Assumes nothing.
-use mathlib.Core.Path.{refl}
 use Rattle.codes.specs.Codes.{capitals}
 use Rattle.codes.proofs.CodeLaws.{place-out}
 use Rattle.codes.proofs.letters.complement_char.Statement.{statement}

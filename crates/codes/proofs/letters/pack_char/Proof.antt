@@ -1,6 +1,5 @@
 -- Each letter has its code by computation, and any other byte none. Assumes nothing.
 use mathlib.Core.Logic.{⊎-elim, inl, inr}
-use mathlib.Core.Path.{refl}
 use Rattle.codes.specs.Codes.{strict}
 use Rattle.codes.proofs.CodeLaws.{strict-out}
 use Rattle.codes.proofs.letters.pack_char.Statement.{statement}

@@ -1,5 +1,4 @@
 -- Four codes by computation, and none above. Assumes nothing.
-use mathlib.Core.Path.{refl}
 use native.Mathlib.Omega.{arith}
 use borrow.Author.Tests.{lt-ltb}
 use Rattle.codes.proofs.letters.unpack_base.Statement.{statement}

@@ -1,7 +1,6 @@
 -- The test on the length is the definition's. Assumes nothing.
-use mathlib.Core.Path.{_≡_, refl, sym, ap, ap₂, _∙_}
-use Prim.Native.Nat.{ℕ, _+_, _-_, _*_, _^_}
-use native.Mathlib.Omega.{arith}
+use mathlib.Core.Path.{ap}
+use Prim.Native.Nat.{ℕ, _-_}
 use borrow.Author.Tests.{lt-ltb, le-ltb}
 use Rattle.codes.specs.Refusals.{answer}
 use Rattle.codes.specs.declared.refusals.Outcome.the-variants.{Done}

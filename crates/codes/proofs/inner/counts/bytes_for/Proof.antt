@@ -1,10 +1,10 @@
 -- The count by quotient and remainder, which cannot wrap. Assumes nothing.
-use mathlib.Core.Path.{_≡_, ap, _∙_}
-use Prim.Native.Nat.{ℕ, _+_, _-_, _/_, _%_}
+use mathlib.Core.Path.{ap, _∙_}
+use Prim.Native.Nat.{_-_}
 use native.Mathlib.Nat.{mod-lt}
 use native.Mathlib.Omega.{arith}
 use borrow.Author.Needs.{needs}
-use Rattle.codes.specs.Codes.{per, up}
+use Rattle.codes.specs.Codes.{up}
 use Rattle.codes.proofs.WidthLaws.{per-pos, width-pos, per-le, up-is, up-le}
 use Rattle.codes.proofs.inner.counts.bytes_for.Statement.{statement}
 use Rattle.codes.proofs.inner.counts.bytes_for.Tie as tie

@@ -1,7 +1,7 @@
 -- A digit above what is there is added by an or. Assumes nothing.
 use native.Mathlib.Omega.{arith}
 use mathlib.Core.Path.{_∙_, ap}
-use Prim.Native.Nat.{_*_, _^_}
+use Prim.Native.Nat.{_*_}
 use lib.Pow.{shl-exact}
 use lib.Bits.{bitOr, or-shifted-r}
 use Rattle.codes.proofs.WidthLaws.{shift-fits, shift-lt}

@@ -1,5 +1,4 @@
 -- The test on the width is the definition's. Assumes nothing.
-use mathlib.Core.Path.{refl}
 use borrow.Author.Tests.{ne-eqb, eq-eqb}
 use Rattle.codes.specs.Codes.{code}
 use borrow.Author.Needs.{needs}

@@ -40,7 +40,8 @@ returns-2 : tie.Need-returns-2
 returns-2 c =
     let m = c .before .before .before in
     let a = m .before .before .args in
-    c .accepted-part .ensures ∙ gives-done (first (viewTests (a .w) (length (a .bytes .now)) (a .offset .0) (a .len .0))) _ (front (spanOf (a .bytes))) (sym (m .view-outcome .ensures) ∙ c .before .enum-told2 .given .1)
+    let tests = viewTests (a .w) (length (a .bytes .now)) (a .offset .0) (a .len .0) in
+    c .accepted-part .ensures ∙ gives-done (first tests) _ (front (spanOf (a .bytes))) (sym (m .view-outcome .ensures) ∙ c .before .enum-told2 .given .1)
 
 pub normal-part-spec : {M : Type 1} → statement M
 normal-part-spec =

@@ -22,7 +22,7 @@ refusal-no-requires : tie.Need-refusal-no-requires
 refusal-no-requires c κs = tt
 
 returns : tie.Need-returns
-returns c = said-3 0 (c .before .count .ensures) (c .count2 .ensures) refl ∙ sym (ap shapeSays (c .before .before .before .answer .given .1))
+returns c = said-3 0 (c .before .count .ensures) refl (c .count2 .ensures) ∙ sym (ap shapeSays (c .before .before .before .answer .given .1))
 
 returns-2 : tie.Need-returns-2
 returns-2 c = said-no _ (c .refusal-no .ensures) ∙ sym (ap shapeSays (c .before .before .answer2 .given .1))

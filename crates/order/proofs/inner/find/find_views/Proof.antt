@@ -39,9 +39,9 @@ find-at-requires c κs =
     let s = m .before .before .before in
     let a = s .args in
     let e = sym (m .pair-outcome .ensures) ∙ c .before .before .before .before .enum-told .given .1 in
-    let v = pair-views (a .w) (length (a .p .now)) (a .po .0) (a .pl .0) (length (a .t .now)) (a .to .0) (a .tl .0) e in
-    let p = view-accepted (a .w) (length (a .p .now)) (a .po .0) (a .pl .0) (v .0) in
-    let t = view-accepted (a .w) (length (a .t .now)) (a .to .0) (a .tl .0) (v .1) in
+    let v = pair-views (a .w) (length (a .t .now)) (a .to .0) (a .tl .0) (length (a .p .now)) (a .po .0) (a .pl .0) e in
+    let t = view-accepted (a .w) (length (a .t .now)) (a .to .0) (a .tl .0) (v .0) in
+    let p = view-accepted (a .w) (length (a .p .now)) (a .po .0) (a .pl .0) (v .1) in
     (s .pre, ((omega (arith, p .fits), p .small), (omega (arith, t .fits), t .small)))
 
 returns : tie.Need-returns

@@ -1,6 +1,6 @@
 -- By which of the two it is. Assumes nothing.
 use mathlib.Core.Bool.{Bool}
-use mathlib.Core.Path.{sym, ap, ap₂, _∙_}
+use mathlib.Core.Path.{sym, ap₂, _∙_}
 use Prim.Native.Nat.{ℕ, _%_}
 use Rattle.codes.specs.Codes.{per, pick}
 use Rattle.codes.specs.Refusals.{answer}

@@ -35,7 +35,7 @@ returns-2 c =
     let p = c .before .before .plan-of .ensures in
     let lane = c .before .new .ensures ∙ p .lane in
     let padding = c .new2 .ensures ∙ p .padding in
-    answer-done _ _ _ (0, 0, 0) (fine (c .before .before .before)) (λ i. (lane i, padding i, p .steps i))
+    answer-done _ _ _ (0, 0, 0) (fine (c .before .before .before)) (λ i. (lane i, p .steps i, padding i))
 
 pub shape-spec : {M : Type 1} → statement M
 shape-spec =
