@@ -191,9 +191,9 @@ flags-fill-windows-decided κs a x y v w p q =
     let out = p .1 ∙ sym (q .1) in
     λ i. (answer i .no, skip 6 (out i, (answer i .values .0, (answer i .values .1, tt))))
 
-pub flags-step-windows-decided : Once 5 flags-step-windows·kinds.ps flags-step-windows·kinds.r flags-step-windows.Post
+pub flags-step-windows-decided : Once 4 flags-step-windows·kinds.ps flags-step-windows·kinds.r flags-step-windows.Post
 flags-step-windows-decided κs a x y v w p q =
     let number = p .0 ∙ sym (q .0) in
     let answers = p .1 .0 ∙ sym (q .1 .0) in
     let state = p .1 .1 ∙ sym (q .1 .1) in
-    λ i. (number i, skip 7 (answers i, (state i .counts, (state i .at, tt))))
+    λ i. (number i, skip 5 (state i .counts, (state i .at, (answers i, tt))))
