@@ -43,10 +43,10 @@ normalised-requires c κs = search needs
 
 returns : tie.Need-returns
 returns c =
-    let t = c .before .before .before .before .before .before in
-    let k = t .before .before in
+    let t = c .before .before .before .before .before in
+    let k = t .before .before .before in
     let a = s k .args in
-    least-second (a .w) (a .a .now) (a .ao) (a .al) (a .b .now) (a .bo) (a .bl) (k .choose .result) (which k) (t .enum-told .given .1) (c .normalised .ensures) (c .before .before .before .before .before .if1 .taken)
+    least-second (a .w) (a .a .now) (a .ao) (a .al) (a .b .now) (a .bo) (a .bl) (k .choose .result) (which k) (t .before .enum-told .given .1) (c .normalised .ensures) (t .if1 .taken)
 
 normalised-requires-2 : tie.Need-normalised-requires-2
 normalised-requires-2 c κs = search needs
@@ -60,10 +60,10 @@ returns-2 c =
 
 returns-3 : tie.Need-returns-3
 returns-3 c =
-    let t = c .before .before .before .before .before .before in
-    let k = t .before .before in
+    let t = c .before .before .before .before .before in
+    let k = t .before .before .before in
     let a = s k .args in
-    least-first (a .w) (a .a .now) (a .ao) (a .al) (a .b .now) (a .bo) (a .bl) (k .choose .result) (which k) (t .enum-told .given .1) (c .normalised2 .ensures) (c .before .before .before .before .before .if1 .left)
+    least-first (a .w) (a .a .now) (a .ao) (a .al) (a .b .now) (a .bo) (a .bl) (k .choose .result) (which k) (t .before .enum-told .given .1) (c .normalised2 .ensures) (t .if1 .left)
 
 pub least-spec : {M : Type 1} → statement M
 least-spec =
