@@ -1,8 +1,7 @@
 -- For each exported function of bases: any two permitted outcomes coincide, in what is returned and in all that is lent to be written.
 -- Assumes nothing.
 use mathlib.Core.Path.{sym, _∙_}
-use Rattle.codes.proofs.Permitted.{Once}
-use Rattle.abi.proofs.Skip.{skip}
+use Rattle.codes.proofs.Permitted.{Once, skip}
 use Rattle.abi.proofs.bases.pair.tsiv_bases_cmp_lcp.Kinds as bases-cmp-lcp·kinds
 use Rattle.abi.proofs.bases.pair.tsiv_bases_cmp_lcp.Reads as bases-cmp-lcp
 use Rattle.abi.proofs.bases.pair.tsiv_bases_cmp.Kinds as bases-cmp·kinds

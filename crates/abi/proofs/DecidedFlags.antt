@@ -1,8 +1,7 @@
 -- For each exported function of flags: any two permitted outcomes coincide, in what is returned and in all that is lent to be written.
 -- Assumes nothing.
 use mathlib.Core.Path.{sym, _∙_}
-use Rattle.codes.proofs.Permitted.{Once}
-use Rattle.abi.proofs.Skip.{skip}
+use Rattle.codes.proofs.Permitted.{Once, skip}
 use Rattle.abi.proofs.flags.pair.tsiv_flags_cmp_lcp.Kinds as flags-cmp-lcp·kinds
 use Rattle.abi.proofs.flags.pair.tsiv_flags_cmp_lcp.Reads as flags-cmp-lcp
 use Rattle.abi.proofs.flags.pair.tsiv_flags_cmp.Kinds as flags-cmp·kinds

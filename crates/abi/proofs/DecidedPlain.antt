@@ -1,8 +1,7 @@
 -- For each exported function without a width: any two permitted outcomes coincide, in what is returned and in all that is lent to be written.
 -- Assumes nothing.
 use mathlib.Core.Path.{sym, _∙_}
-use Rattle.codes.proofs.Permitted.{Once}
-use Rattle.abi.proofs.Skip.{skip}
+use Rattle.codes.proofs.Permitted.{Once, skip}
 use Rattle.abi.proofs.form.tsiv_form_write.Kinds as form-write·kinds
 use Rattle.abi.proofs.form.tsiv_form_write.Reads as form-write
 use Rattle.abi.proofs.form.tsiv_form_read.Kinds as form-read·kinds

@@ -1,4 +1,3 @@
-mod Skip
 pub mod DecidedBases
 pub mod DecidedFlags
 pub mod DecidedPlain

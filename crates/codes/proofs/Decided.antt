@@ -1,12 +1,11 @@
 -- For each public call: any two permitted outcomes coincide.
 -- Assumes nothing.
-use denote.Ref.{now}
 use mathlib.Core.Path.{sym, ap, _∙_}
 use Prim.Native.Nat.{ℕ}
 use Rattle.codes.specs.declared.units.Chars.{Chars}
 use Rattle.codes.specs.declared.units.Bytes.{Bytes}
 use Rattle.codes.proofs.AnswerLaws.{symbol-told, word-told, word128-told}
-use Rattle.codes.proofs.Permitted.{Decided, Settled}
+use Rattle.codes.proofs.Permitted.{Decided, Once, skip}
 use Rattle.codes.proofs.RefusalLaws.{says-once}
 use Rattle.codes.proofs.refusals.Refusal.number.Kinds as refusal-number·kinds
 use Rattle.codes.proofs.refusals.Refusal.number.Reads as refusal-number
@@ -101,11 +100,17 @@ pack-kmer-lossy-decided κs a x y s t p q = says-once word-told x y (p ∙ sym q
 pub pack-kmer-u128-lossy-decided : Decided 1 pack-kmer-u128-lossy·kinds.ps pack-kmer-u128-lossy·kinds.r pack-kmer-u128-lossy.Post
 pack-kmer-u128-lossy-decided κs a x y s t p q = says-once word128-told x y (p ∙ sym q)
 
-pub unpack-kmer-decided : Settled 1 unpack-kmer·kinds.ps unpack-kmer·kinds.r unpack-kmer.Post (λ κs s. now (s .1 .1 .0))
-unpack-kmer-decided κs a x y s t p q = (p .0 ∙ sym (q .0), (rw (p .0) at (p .1)) ∙ sym (rw (q .0) at (q .1)))
+pub unpack-kmer-decided : Once 1 unpack-kmer·kinds.ps unpack-kmer·kinds.r unpack-kmer.Post
+unpack-kmer-decided κs a x y v w p q =
+    let says = p .0 ∙ sym (q .0) in
+    let out = (rw (p .0) at (p .1)) ∙ sym (rw (q .0) at (q .1)) in
+    λ i. (says i, skip 2 (out i, tt))
 
-pub unpack-kmer-u128-decided : Settled 1 unpack-kmer-u128·kinds.ps unpack-kmer-u128·kinds.r unpack-kmer-u128.Post (λ κs s. now (s .1 .1 .1 .0))
-unpack-kmer-u128-decided κs a x y s t p q = (p .0 ∙ sym (q .0), (rw (p .0) at (p .1)) ∙ sym (rw (q .0) at (q .1)))
+pub unpack-kmer-u128-decided : Once 1 unpack-kmer-u128·kinds.ps unpack-kmer-u128·kinds.r unpack-kmer-u128.Post
+unpack-kmer-u128-decided κs a x y v w p q =
+    let says = p .0 ∙ sym (q .0) in
+    let out = (rw (p .0) at (p .1)) ∙ sym (rw (q .0) at (q .1)) in
+    λ i. (says i, skip 3 (out i, tt))
 
 pub revcomp-u64-decided : Decided 0 revcomp-u64·kinds.ps revcomp-u64·kinds.r revcomp-u64.Post
 revcomp-u64-decided κs a x y s t p q = says-once word-told x y (p ∙ sym q)

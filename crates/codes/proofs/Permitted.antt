@@ -6,20 +6,24 @@ use contract.Lifetimes.{Lfts}
 use denote.Triple.Clauses.{AtExit, Lasts, atExit}
 use mathlib.Core.List.{List}
 use mathlib.Core.Path.{_≡_}
-use Prim.Native.Nat.{ℕ}
+use Prim.Native.Nat.{ℕ, zero, suc}
 
 -- a contract permits one result
 abbrev pub Decided : (n : ℕ) (ps : List (PK n)) (r : RK n) → Out n ps r → Type 0
 Decided n ps r Q =
     (κs : Lfts n) (a : Dens κs ps) (x y : resT r κs .Denot) (s t : AtExit (endedOf n ps r) κs) → Q κs a x s → Q κs a y t → x ≡ y
 
--- and one content of the lent memory that `seen` shows
-abbrev pub Settled : (n : ℕ) (ps : List (PK n)) (r : RK n) → Out n ps r → ((κs : Lfts n) → AtExit (endedOf n ps r) κs → List ℕ) → Type 0
-Settled n ps r Q seen =
-    (κs : Lfts n) (a : Dens κs ps) (x y : resT r κs .Denot) (s t : AtExit (endedOf n ps r) κs) → Q κs a x s → Q κs a y t → (x ≡ y) × (seen κs s ≡ seen κs t)
-
 -- and one last content of everything that is lent to be written
 abbrev pub Once : (n : ℕ) (ps : List (PK n)) (r : RK n) → Out n ps r → Type 0
 Once n ps r Q =
     (κs : Lfts n) (a : Dens κs ps) (x y : resT r κs .Denot) (v w : Lasts (endedOf n ps r) κs a)
     → Q κs a x (atExit (endedOf n ps r) κs a v) → Q κs a y (atExit (endedOf n ps r) κs a w) → _≡_ {A = resT r κs .Denot × Lasts (endedOf n ps r) κs a} (x, v) (y, w)
+
+-- the last contents of parameters of which so many in a row are not written
+abbrev pub Skipped : ℕ → Type 0 → Type 0
+Skipped zero A = A
+Skipped (suc n) A = Unit {0} × Skipped n A
+
+abbrev pub skip : (n : ℕ) {A : Type 0} → A → Skipped n A
+skip zero a = a
+skip (suc n) a = (tt, skip n a)

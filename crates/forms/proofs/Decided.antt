@@ -1,11 +1,10 @@
 -- For each public call: any two permitted outcomes coincide.
 -- Assumes nothing.
-use denote.Ref.{now}
 use mathlib.Core.Path.{_≡_, sym, ap, _∙_}
 use Prim.Native.Nat.{ℕ}
 use Rattle.codes.specs.declared.refusals.Outcome.{Outcome}
 use Rattle.codes.specs.declared.refusals.Outcome.the-variants.{Done, Refused}
-use Rattle.codes.proofs.Permitted.{Settled}
+use Rattle.codes.proofs.Permitted.{Once, skip}
 use Rattle.codes.proofs.RefusalLaws.{Told, outcomeAt, outcomeAt-number, says-once}
 use Rattle.forms.specs.Answers.{wroteSays, restoredSays}
 use Rattle.forms.specs.declared.answers.Wrote.{Wrote}
@@ -39,11 +38,15 @@ restored-back (Restored.Refused r) = sym (ap (λ (o : Outcome). restoredOf o 0) 
 pub restored-told : Told restoredSays
 restored-told = record { make = restoredOf; back = restored-back }
 
-pub write-decided : Settled 3 write·kinds.ps write·kinds.r write.Post (λ κs s. now (s .1 .1 .1 .1 .1 .1 .0))
-write-decided κs a x y s t p q = (says-once wrote-told x y (p .0 ∙ sym (q .0)), p .1 ∙ sym (q .1))
+pub write-decided : Once 3 write·kinds.ps write·kinds.r write.Post
+write-decided κs a x y v w p q =
+    let says = says-once wrote-told x y (p .0 ∙ sym (q .0)) in
+    let out = p .1 ∙ sym (q .1) in
+    λ i. (says i, skip 6 (out i, tt))
 
-pub read-bases-decided : Settled 3 read·kinds.ps read·kinds.r read.Post (λ κs s. now (s .1 .0))
-read-bases-decided κs a x y s t p q = (says-once restored-told x y (p .0 ∙ sym (q .0)), p .1 .0 ∙ sym (q .1 .0))
-
-pub read-flags-decided : Settled 3 read·kinds.ps read·kinds.r read.Post (λ κs s. now (s .1 .1 .0))
-read-flags-decided κs a x y s t p q = (says-once restored-told x y (p .0 ∙ sym (q .0)), p .1 .1 ∙ sym (q .1 .1))
+pub read-decided : Once 3 read·kinds.ps read·kinds.r read.Post
+read-decided κs a x y v w p q =
+    let says = says-once restored-told x y (p .0 ∙ sym (q .0)) in
+    let bases = p .1 .0 ∙ sym (q .1 .0) in
+    let flags = p .1 .1 ∙ sym (q .1 .1) in
+    λ i. (says i, skip 1 (bases i, (flags i, tt)))

@@ -1,8 +1,7 @@
 -- For each public call: any two permitted outcomes coincide.
 -- Assumes nothing.
-use denote.Ref.{now}
 use mathlib.Core.Path.{sym, _∙_}
-use Rattle.codes.proofs.Permitted.{Settled}
+use Rattle.codes.proofs.Permitted.{Once, skip}
 use Rattle.codes.proofs.RefusalLaws.{says-once}
 use Rattle.stores.proofs.AnswerLaws.{pushed-told, kept-told}
 use Rattle.stores.proofs.bases.clear.Kinds as bases-clear·kinds
@@ -26,32 +25,62 @@ use Rattle.stores.proofs.flags.overwrite.Reads as flags-overwrite
 use Rattle.stores.proofs.flags.cut.Kinds as flags-cut·kinds
 use Rattle.stores.proofs.flags.cut.Reads as flags-cut
 
-pub bases-clear-decided : Settled 1 bases-clear·kinds.ps bases-clear·kinds.r bases-clear.Post (λ κs s. now (s .0))
-bases-clear-decided κs a x y s t p q = (says-once kept-told x y (p .0 ∙ sym (q .0)), p .1 ∙ sym (q .1))
+pub bases-clear-decided : Once 1 bases-clear·kinds.ps bases-clear·kinds.r bases-clear.Post
+bases-clear-decided κs a x y v w p q =
+    let says = says-once kept-told x y (p .0 ∙ sym (q .0)) in
+    let bytes = p .1 ∙ sym (q .1) in
+    λ i. (says i, (bytes i, tt))
 
-pub bases-push-ascii-decided : Settled 2 bases-push-ascii·kinds.ps bases-push-ascii·kinds.r bases-push-ascii.Post (λ κs s. now (s .0))
-bases-push-ascii-decided κs a x y s t p q = (says-once pushed-told x y (p .0 ∙ sym (q .0)), p .1 ∙ sym (q .1))
+pub bases-push-ascii-decided : Once 2 bases-push-ascii·kinds.ps bases-push-ascii·kinds.r bases-push-ascii.Post
+bases-push-ascii-decided κs a x y v w p q =
+    let says = says-once pushed-told x y (p .0 ∙ sym (q .0)) in
+    let bytes = p .1 ∙ sym (q .1) in
+    λ i. (says i, (bytes i, skip 2 tt))
 
-pub bases-push-seq-decided : Settled 2 bases-push-seq·kinds.ps bases-push-seq·kinds.r bases-push-seq.Post (λ κs s. now (s .0))
-bases-push-seq-decided κs a x y s t p q = (says-once pushed-told x y (p .0 ∙ sym (q .0)), p .1 ∙ sym (q .1))
+pub bases-push-seq-decided : Once 2 bases-push-seq·kinds.ps bases-push-seq·kinds.r bases-push-seq.Post
+bases-push-seq-decided κs a x y v w p q =
+    let says = says-once pushed-told x y (p .0 ∙ sym (q .0)) in
+    let bytes = p .1 ∙ sym (q .1) in
+    λ i. (says i, (bytes i, skip 4 tt))
 
-pub bases-overwrite-decided : Settled 2 bases-overwrite·kinds.ps bases-overwrite·kinds.r bases-overwrite.Post (λ κs s. now (s .0))
-bases-overwrite-decided κs a x y s t p q = (says-once kept-told x y (p .0 ∙ sym (q .0)), p .1 ∙ sym (q .1))
+pub bases-overwrite-decided : Once 2 bases-overwrite·kinds.ps bases-overwrite·kinds.r bases-overwrite.Post
+bases-overwrite-decided κs a x y v w p q =
+    let says = says-once kept-told x y (p .0 ∙ sym (q .0)) in
+    let bytes = p .1 ∙ sym (q .1) in
+    λ i. (says i, (bytes i, skip 3 tt))
 
-pub bases-cut-decided : Settled 1 bases-cut·kinds.ps bases-cut·kinds.r bases-cut.Post (λ κs s. now (s .0))
-bases-cut-decided κs a x y s t p q = (says-once kept-told x y (p .0 ∙ sym (q .0)), p .1 ∙ sym (q .1))
+pub bases-cut-decided : Once 1 bases-cut·kinds.ps bases-cut·kinds.r bases-cut.Post
+bases-cut-decided κs a x y v w p q =
+    let says = says-once kept-told x y (p .0 ∙ sym (q .0)) in
+    let bytes = p .1 ∙ sym (q .1) in
+    λ i. (says i, (bytes i, skip 2 tt))
 
-pub flags-clear-decided : Settled 1 flags-clear·kinds.ps flags-clear·kinds.r flags-clear.Post (λ κs s. now (s .0))
-flags-clear-decided κs a x y s t p q = (says-once kept-told x y (p .0 ∙ sym (q .0)), p .1 ∙ sym (q .1))
+pub flags-clear-decided : Once 1 flags-clear·kinds.ps flags-clear·kinds.r flags-clear.Post
+flags-clear-decided κs a x y v w p q =
+    let says = says-once kept-told x y (p .0 ∙ sym (q .0)) in
+    let bytes = p .1 ∙ sym (q .1) in
+    λ i. (says i, (bytes i, tt))
 
-pub flags-push-ascii-decided : Settled 2 flags-push-ascii·kinds.ps flags-push-ascii·kinds.r flags-push-ascii.Post (λ κs s. now (s .0))
-flags-push-ascii-decided κs a x y s t p q = (says-once pushed-told x y (p .0 ∙ sym (q .0)), p .1 ∙ sym (q .1))
+pub flags-push-ascii-decided : Once 2 flags-push-ascii·kinds.ps flags-push-ascii·kinds.r flags-push-ascii.Post
+flags-push-ascii-decided κs a x y v w p q =
+    let says = says-once pushed-told x y (p .0 ∙ sym (q .0)) in
+    let bytes = p .1 ∙ sym (q .1) in
+    λ i. (says i, (bytes i, skip 2 tt))
 
-pub flags-push-seq-decided : Settled 2 flags-push-seq·kinds.ps flags-push-seq·kinds.r flags-push-seq.Post (λ κs s. now (s .0))
-flags-push-seq-decided κs a x y s t p q = (says-once pushed-told x y (p .0 ∙ sym (q .0)), p .1 ∙ sym (q .1))
+pub flags-push-seq-decided : Once 2 flags-push-seq·kinds.ps flags-push-seq·kinds.r flags-push-seq.Post
+flags-push-seq-decided κs a x y v w p q =
+    let says = says-once pushed-told x y (p .0 ∙ sym (q .0)) in
+    let bytes = p .1 ∙ sym (q .1) in
+    λ i. (says i, (bytes i, skip 4 tt))
 
-pub flags-overwrite-decided : Settled 2 flags-overwrite·kinds.ps flags-overwrite·kinds.r flags-overwrite.Post (λ κs s. now (s .0))
-flags-overwrite-decided κs a x y s t p q = (says-once kept-told x y (p .0 ∙ sym (q .0)), p .1 ∙ sym (q .1))
+pub flags-overwrite-decided : Once 2 flags-overwrite·kinds.ps flags-overwrite·kinds.r flags-overwrite.Post
+flags-overwrite-decided κs a x y v w p q =
+    let says = says-once kept-told x y (p .0 ∙ sym (q .0)) in
+    let bytes = p .1 ∙ sym (q .1) in
+    λ i. (says i, (bytes i, skip 3 tt))
 
-pub flags-cut-decided : Settled 1 flags-cut·kinds.ps flags-cut·kinds.r flags-cut.Post (λ κs s. now (s .0))
-flags-cut-decided κs a x y s t p q = (says-once kept-told x y (p .0 ∙ sym (q .0)), p .1 ∙ sym (q .1))
+pub flags-cut-decided : Once 1 flags-cut·kinds.ps flags-cut·kinds.r flags-cut.Post
+flags-cut-decided κs a x y v w p q =
+    let says = says-once kept-told x y (p .0 ∙ sym (q .0)) in
+    let bytes = p .1 ∙ sym (q .1) in
+    λ i. (says i, (bytes i, skip 2 tt))

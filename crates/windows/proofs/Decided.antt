@@ -1,8 +1,7 @@
 -- For each public call: any two permitted outcomes coincide.
 -- Assumes nothing.
-use denote.Ref.{now}
 use mathlib.Core.Path.{_≡_, sym, _∙_}
-use Rattle.codes.proofs.Permitted.{Decided, Settled}
+use Rattle.codes.proofs.Permitted.{Decided, Once, skip}
 use Rattle.codes.proofs.RefusalLaws.{says-once}
 use Rattle.windows.specs.Answers.{running}
 use Rattle.streams.proofs.AnswerLaws.{filled-told}
@@ -11,8 +10,11 @@ use Rattle.windows.proofs.flags.fill_windows.Reads as flags-fill-window
 use Rattle.windows.proofs.flags.step_windows.Kinds as flags-step-windows·kinds
 use Rattle.windows.proofs.flags.step_windows.Reads as flags-step-windows
 
-pub flags-fill-windows-decided : Settled 2 flags-fill-windows·kinds.ps flags-fill-windows·kinds.r flags-fill-windows.Post (λ κs s. now (s .1 .1 .1 .1 .1 .1 .0))
-flags-fill-windows-decided κs a x y s t p q = (says-once filled-told x y (p .0 ∙ sym (q .0)), p .1 ∙ sym (q .1))
+pub flags-fill-windows-decided : Once 2 flags-fill-windows·kinds.ps flags-fill-windows·kinds.r flags-fill-windows.Post
+flags-fill-windows-decided κs a x y v w p q =
+    let says = says-once filled-told x y (p .0 ∙ sym (q .0)) in
+    let out = p .1 ∙ sym (q .1) in
+    λ i. (says i, skip 6 (out i, tt))
 
 pub flags-step-windows-decided : Decided 1 flags-step-windows·kinds.ps flags-step-windows·kinds.r flags-step-windows.Post
 flags-step-windows-decided κs a x y s t p q =
