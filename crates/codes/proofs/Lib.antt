@@ -14,5 +14,6 @@ pub mod FieldLaws
 pub mod Turns
 pub mod MadeLaws
 pub mod PackedLaws
+pub mod Viewed
 pub mod Permitted
 pub mod Decided

@@ -73,6 +73,10 @@ badCode c = (ltb 3 c, BadLetter)
 abbrev pub noRoom : ℕ → ℕ → Test
 noRoom n needed = (ltb n needed, NoRoom)
 
+-- the refusals of a view of n bytes
+abbrev pub viewTests : ℕ → ℕ → ℕ → ℕ → List Test
+viewTests w n o len = tooLong n ∷ badView w n o len ∷ []
+
 -- of several that apply, the first
 abbrev pub first : List Test → Outcome
 first [] = Done

@@ -6,7 +6,7 @@ use mathlib.Core.Path.{_≡_, refl, sym, ap, ap₂, _∙_}
 use Prim.Native.Nat.{ℕ, _/_, _%_}
 use lib.ListN.{length}
 use Rattle.codes.specs.Codes.{IsWidth, per, pick}
-use Rattle.codes.specs.Refusals.{Answer, answer, first, ifDone}
+use Rattle.codes.specs.Refusals.{Answer, answer, first, ifDone, viewTests}
 use Rattle.codes.specs.declared.refusals.Outcome.{Outcome}
 use Rattle.codes.specs.declared.refusals.Outcome.the-variants.{Done, Refused}
 use Rattle.codes.specs.declared.refusals.Refusal.{Refusal}
@@ -14,7 +14,6 @@ use Rattle.order.specs.Order.{pairOutcome, pairOrder, isSecond, choice}
 use Rattle.order.specs.declared.inner.least.Choice.{Choice}
 use Rattle.order.proofs.OrderLaws.{pair-views}
 use Rattle.fields.specs.Answers.{numbersSay}
-use Rattle.fields.specs.Fields.{viewTests}
 use Rattle.fields.specs.Spans.{Span, front, normalPart}
 use Rattle.fields.specs.declared.inner.parts.Numbers.{Numbers}
 use Rattle.fields.proofs.ViewLaws.{view-accepted, normal-length}

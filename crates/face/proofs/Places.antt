@@ -8,11 +8,11 @@ use native.Mathlib.Nat.{zero-add}
 use lib.ListN.{length, take, drop}
 use lib.Seq.{take-length}
 use Rattle.codes.specs.Codes.{pick}
-use Rattle.codes.specs.Refusals.{Answer, answer, first}
+use Rattle.codes.specs.Refusals.{Answer, answer, first, viewTests}
 use Rattle.codes.specs.declared.refusals.Outcome.{Outcome}
 use Rattle.codes.specs.declared.refusals.Outcome.the-variants.{Done, Refused}
 use Rattle.order.specs.Order.{pairOutcome, pairOrder, isSecond, chosen}
-use Rattle.fields.specs.Fields.{viewTests, sliceTests}
+use Rattle.fields.specs.Fields.{sliceTests}
 use Rattle.fields.specs.Spans.{Span, normalPart}
 use Rattle.views.specs.Views.{Lent, lent, empty, normal, made, sliced, normalised}
 use Rattle.given.specs.Face.{Part, noPart}

@@ -5,8 +5,8 @@ use mathlib.Core.List.{List}
 use Prim.Native.Nat.{ℕ, _+_, _-_, _/_, _%_}
 use lib.ListN.{length}
 use Rattle.codes.specs.Codes.{per, up, trailing, pick}
-use Rattle.codes.specs.Refusals.{Answer, answer, first}
-use Rattle.fields.specs.Fields.{viewTests, sliceTests}
+use Rattle.codes.specs.Refusals.{Answer, answer, first, viewTests}
+use Rattle.fields.specs.Fields.{sliceTests}
 use Rattle.order.specs.Order.{pairOutcome, pairOrder, isSecond}
 use Rattle.given.specs.Face.{Part, noPart}
 

@@ -7,7 +7,7 @@ use native.Mathlib.Nat.{add-zero, mul-add, mul-left-comm, mul-comm, mul-le-mul-l
 use native.Mathlib.Omega.{arith}
 use lib.ListN.{length, getD}
 use Rattle.codes.specs.Codes.{per, IsWidth, chars, trailing}
-use Rattle.codes.specs.Refusals.{first, badWord}
+use Rattle.codes.specs.Refusals.{first, badWord, viewTests}
 use Rattle.codes.specs.declared.refusals.Outcome.the-variants.{Done}
 use Rattle.codes.specs.Words.{word}
 use Rattle.codes.proofs.FieldLaws.{word-chars}
@@ -15,7 +15,7 @@ use Rattle.codes.proofs.OutcomeLaws.{first-both, passed}
 use Rattle.codes.proofs.RefusalLaws.{word-in}
 use Rattle.codes.proofs.TabLaws.{Below-of}
 use Rattle.codes.proofs.WidthLaws.{below-or, whole}
-use Rattle.fields.specs.Fields.{viewTests, wordTests}
+use Rattle.fields.specs.Fields.{wordTests}
 use Rattle.fields.proofs.ViewLaws.{view-accepted, room-sum}
 
 -- a view's bits

@@ -5,9 +5,9 @@ use mathlib.Core.List.{List, [], _∷_, _++_}
 use mathlib.Core.Path.{refl}
 use Prim.Native.Nat.{ℕ}
 use lib.ListN.{length}
-use Rattle.codes.specs.Refusals.{first, numberOf, badIndex}
+use Rattle.codes.specs.Refusals.{first, numberOf, badIndex, viewTests}
 use Rattle.codes.proofs.Lowest.{Lowest, first-lowest}
-use Rattle.fields.specs.Fields.{viewTests, sliceTests, wordTests, got}
+use Rattle.fields.specs.Fields.{sliceTests, wordTests, got}
 
 module _ (w n o len : ℕ) where
   pub view-lowest : Lowest (numberOf (first (viewTests w n o len))) (viewTests w n o len)

@@ -10,12 +10,13 @@ use lib.ListN.{length, getD, drop, length-drop}
 use lib.Seq.{length-take-le, getD-take, getD-drop}
 use borrow.Author.Tests.{ltb-false, leb-false}
 use Rattle.codes.specs.Codes.{per, up, trailing, IsWidth, charAt, chars}
-use Rattle.codes.specs.Refusals.{first, badIndex, badEnd, badStart}
+use Rattle.codes.specs.Refusals.{first, badIndex, badEnd, badStart, viewTests}
 use Rattle.codes.specs.declared.refusals.Outcome.the-variants.{Done}
 use Rattle.codes.proofs.CharLaws.{chars-ext}
 use Rattle.codes.proofs.OutcomeLaws.{passed, first-both}
+use Rattle.codes.proofs.Viewed.{view-passed}
 use Rattle.codes.proofs.WidthLaws.{per-pos, up-hi, up-mono, up-whole, less-trailing, chars-bound}
-use Rattle.fields.specs.Fields.{viewTests, sliceTests}
+use Rattle.fields.specs.Fields.{sliceTests}
 use Rattle.fields.specs.Spans.{Span, normalPart}
 
 -- an accepted view of n bytes: they are not too many, and reach 48 beyond the characters
@@ -25,9 +26,8 @@ pub record Room (w n o len : ℕ) : Type 0 where
 
 pub view-accepted : (w n o len : ℕ) → first (viewTests w n o len) ≡ Done → Room w n o len
 view-accepted w n o len e =
-    let p = passed (ltb (2 ^ 28) n) _ _ e in
-    let q = passed (ltb (n * per w) (o + len + trailing * per w)) _ _ (p .1) in
-    record { small = ltb-false (2 ^ 28) n (p .0); fits = ltb-false (n * per w) (o + len + trailing * per w) (q .0) }
+    let p = view-passed w n o len e in
+    record { small = ltb-false (2 ^ 28) n (p .0); fits = ltb-false (n * per w) (o + len + trailing * per w) (p .1) }
 
 module _ {w : ℕ} (W : IsWidth w) {n o len : ℕ} (room : Room w n o len) where
   -- its sums fit a machine word

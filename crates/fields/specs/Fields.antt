@@ -5,14 +5,10 @@ use Prim.Native.Nat.{ℕ, _/_}
 use lib.ListN.{length, getD}
 use Rattle.codes.specs.Answers.{halves}
 use Rattle.codes.specs.Codes.{chars, complement}
-use Rattle.codes.specs.Refusals.{Test, Answer, answer, first, tooLong, badView, badIndex, badEnd, badStart, badWord}
+use Rattle.codes.specs.Refusals.{Test, Answer, answer, first, viewTests, badIndex, badEnd, badStart, badWord}
 use Rattle.codes.specs.Words.{word}
 
--- the refusals of a view of n bytes
-abbrev pub viewTests : ℕ → ℕ → ℕ → ℕ → List Test
-viewTests w n o len = tooLong n ∷ badView w n o len ∷ []
-
--- and of a slice of it
+-- the refusals of a slice of a view of n bytes
 abbrev pub sliceTests : ℕ → ℕ → ℕ → ℕ → ℕ → ℕ → List Test
 sliceTests w n o len start end = viewTests w n o len ++ badEnd len end ∷ badStart start end ∷ []
 

@@ -9,12 +9,11 @@ use lib.Dec.{ltb, leb, eqb}
 use lib.ListN.{take, drop}
 use borrow.Author.Tests.{ltb-false, eq-eqb, ne-eqb, le-leb, lt-leb, eqb-true, leb-true}
 use Rattle.codes.specs.Codes.{per, trailing}
-use Rattle.codes.specs.Refusals.{Test, answer, first}
+use Rattle.codes.specs.Refusals.{Test, answer, first, viewTests}
 use Rattle.codes.specs.declared.refusals.Outcome.{Outcome}
 use Rattle.codes.specs.declared.refusals.Outcome.the-variants.{Done, Refused}
 use Rattle.codes.specs.declared.refusals.Refusal.{Refusal}
 use Rattle.codes.proofs.OutcomeLaws.{answer-refused}
-use Rattle.fields.specs.Fields.{viewTests}
 use Rattle.forms.specs.Forms.{badTracks, formSize, writeTests}
 
 -- k tests do not hold, and the next one does, if there is one

@@ -9,7 +9,7 @@ use lib.ListN.{length, getD, List·getD-eq-default}
 use lib.Pow.{pow-pos, pow-mono}
 use borrow.Author.Tests.{lt-ltb, le-ltb}
 use Rattle.codes.specs.Codes.{IsWidth, chars}
-use Rattle.codes.specs.Refusals.{first}
+use Rattle.codes.specs.Refusals.{first, viewTests}
 use Rattle.codes.specs.Words.{word}
 use Rattle.codes.specs.declared.refusals.Outcome.the-variants.{Done}
 use Rattle.codes.specs.declared.refusals.Refusal.the-variants.{BadStream}
@@ -17,7 +17,6 @@ use Rattle.codes.proofs.CharLaws.{length-chars, getD-chars}
 use Rattle.codes.proofs.FieldLaws.{charAt-is}
 use Rattle.codes.proofs.WidthLaws.{below-or}
 use Rattle.codes.proofs.WordLaws.{Below}
-use Rattle.fields.specs.Fields.{viewTests}
 use Rattle.codes.proofs.OutcomeLaws.{first-both}
 use Rattle.fields.proofs.LoadLaws.{view-bits}
 use Rattle.lanes.specs.Lanes.{lane, steps, badShape, badDelays, laneChar, streamTests}

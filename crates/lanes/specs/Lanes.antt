@@ -6,9 +6,8 @@ use Prim.Native.Nat.{ℕ, suc, _+_, _-_, _*_, _/_, _%_, _^_}
 use lib.Dec.{ltb}
 use lib.ListN.{length, getD, drop}
 use Rattle.codes.specs.Codes.{per, pick, tab}
-use Rattle.codes.specs.Refusals.{Test}
+use Rattle.codes.specs.Refusals.{Test, viewTests}
 use Rattle.codes.specs.declared.refusals.Refusal.the-variants.{BadStream}
-use Rattle.fields.specs.Fields.{viewTests}
 
 -- the least multiple of m at or above n
 abbrev pub multipleAbove : ℕ → ℕ → ℕ

@@ -12,13 +12,12 @@ use lib.Dec.{ltb, leb·suc-suc}
 use lib.ListN.{length, getD}
 use borrow.Author.Tests.{lt-ltb, le-ltb, eq-eqb, ne-eqb}
 use Rattle.codes.specs.Codes.{IsWidth, per, pick, charAt, chars, trailing}
-use Rattle.codes.specs.Refusals.{first}
+use Rattle.codes.specs.Refusals.{first, viewTests}
 use Rattle.codes.specs.declared.refusals.Outcome.the-variants.{Done}
 use Rattle.codes.specs.declared.refusals.Refusal.the-variants.{TooLong, BadView}
 use Rattle.codes.proofs.CharLaws.{length-chars, getD-chars}
 use Rattle.codes.proofs.WidthLaws.{below-or}
 use Rattle.order.specs.Order.{pairOrder, isEqual, compare, common, pairTests}
-use Rattle.fields.specs.Fields.{viewTests}
 use Rattle.order.specs.declared.answers.Order.{Order}
 use Rattle.order.specs.declared.answers.Order.the-variants.{Less, Equal, Greater}
 use Rattle.fields.proofs.LoadLaws.{Bits, view-bits}

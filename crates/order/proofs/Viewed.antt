@@ -4,31 +4,26 @@
 use mathlib.Core.Bool.{Bool, true, false}
 use mathlib.Core.List.{List}
 use mathlib.Core.Path.{_≡_, sym, _∙_}
-use Prim.Native.Nat.{ℕ, _+_, _-_, _*_, _^_}
-use lib.Dec.{ltb}
+use Prim.Native.Nat.{ℕ, _-_}
 use lib.IntN.{pos}
 use lib.ListN.{length}
-use Rattle.codes.specs.Codes.{IsWidth, per, chars, pick, trailing}
-use Rattle.codes.specs.Refusals.{answer, first}
+use Rattle.codes.specs.Codes.{IsWidth, chars, pick}
+use Rattle.codes.specs.Refusals.{answer, first, viewTests}
 use Rattle.codes.specs.declared.refusals.Outcome.{Outcome}
 use Rattle.codes.specs.declared.refusals.Outcome.the-variants.{Done}
 use Rattle.order.specs.Order.{pairOutcome, pairOrder, pairTests, compare, common, placeOf, orderNumber, compared, ordered, isEqual, equalled, placed, found, isSecond, chosen}
-use Rattle.fields.specs.Fields.{viewTests}
 use Rattle.fields.specs.Spans.{Span}
 use Rattle.codes.proofs.CharLaws.{same-length}
-use Rattle.codes.proofs.OutcomeLaws.{passed}
+use Rattle.codes.proofs.Viewed.{Same, view-passed}
 use Rattle.views.specs.Views.{Lent, empty, normal}
 use Rattle.views.proofs.SliceLaws.{Holds, held, normal-holds}
-use Rattle.views.proofs.Viewed.{Same}
 
 -- two accepted views are accepted together
 pair-done : (w m ao al n bo bl : ℕ) → first (viewTests w m ao al) ≡ Done → first (viewTests w n bo bl) ≡ Done → first (pairTests w m ao al n bo bl) ≡ Done
 pair-done w m ao al n bo bl e f =
-    let p = passed (ltb (2 ^ 28) m) _ _ e in
-    let q = passed (ltb (m * per w) (ao + al + trailing * per w)) _ _ (p .1) in
-    let r = passed (ltb (2 ^ 28) n) _ _ f in
-    let s = passed (ltb (n * per w) (bo + bl + trailing * per w)) _ _ (r .1) in
-    simp (p .0, q .0, r .0, s .0)
+    let p = view-passed w m ao al e in
+    let q = view-passed w n bo bl f in
+    simp (p .0, p .1, q .0, q .1)
 
 -- the part that comes first is an accepted view, with the characters of the view that does
 module _ {w : ℕ} (W : IsWidth w) (s : Span) (ao al : ℕ) (t : Span) (bo bl : ℕ) where

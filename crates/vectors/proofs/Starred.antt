@@ -5,7 +5,7 @@ use mathlib.Core.Path.{_≡_, refl}
 use Prim.Native.Nat.{ℕ}
 use lib.IntN.{ℤ, pos, negsuc}
 use Rattle.codes.specs.Codes.{lossy, complement, flag, strict, tab}
-use Rattle.codes.specs.Refusals.{answer, first, badWord}
+use Rattle.codes.specs.Refusals.{answer, first, badWord, viewTests}
 use Rattle.codes.specs.Words.{word, charsOf, flip, pack, packed}
 use Rattle.codes.specs.declared.refusals.Outcome.the-variants.{Done, Refused}
 use Rattle.codes.specs.declared.refusals.Refusal.the-variants.{BadWord, BadView}
@@ -15,7 +15,6 @@ use Rattle.stores.specs.Stores.{span, pushSeq}
 use Rattle.lanes.specs.Lanes.{lane, padding, steps}
 use Rattle.streams.specs.Streams.{shaped}
 use Rattle.order.specs.Order.{compare, common, orderNumber}
-use Rattle.fields.specs.Fields.{viewTests}
 
 -- the codes of text
 abbrev codes : List ℕ → List ℕ

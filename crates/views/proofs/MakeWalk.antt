@@ -38,12 +38,11 @@ use denote.Triple.Walked.{says, Stays, stay-none, stay-none-slice, goes-none-sli
 use denote.Triple.Clauses.{Clauses, ensured, lasts, closing}
 use denote.Exit.{yes}
 use Rattle.codes.specs.Codes.{IsWidth}
-use Rattle.codes.specs.Refusals.{answer, first}
+use Rattle.codes.specs.Refusals.{answer, first, viewTests}
 use Rattle.codes.specs.declared.units.Chars.{Chars}
 use Rattle.codes.proofs.units.Chars as Cs
 use Rattle.codes.proofs.units.Chars.Laws as C′
 use Rattle.fields.specs.Answers.{numbersSay}
-use Rattle.fields.specs.Fields.{viewTests}
 use Rattle.fields.specs.Spans.{spanOf}
 use Rattle.fields.specs.declared.inner.parts.Numbers.{Numbers}
 use Rattle.fields.proofs.inner.parts.Numbers as N

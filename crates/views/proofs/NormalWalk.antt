@@ -36,10 +36,9 @@ use denote.Triple.Walked.{says, Stays, stay-none, walkOf, goes-none, Walks, ends
 use denote.Triple.Clauses.{Clauses, ensured, lasts, closing}
 use denote.Exit.{yes}
 use Rattle.codes.specs.Codes.{IsWidth, per}
-use Rattle.codes.specs.Refusals.{answer, first, ifDone}
+use Rattle.codes.specs.Refusals.{answer, first, ifDone, viewTests}
 use Rattle.codes.proofs.units.Chars.Laws as C′
 use Rattle.fields.specs.Answers.{numbersSay}
-use Rattle.fields.specs.Fields.{viewTests}
 use Rattle.fields.specs.Spans.{spanOf, front, normalPart}
 use Rattle.fields.specs.declared.inner.parts.Numbers.{Numbers}
 use Rattle.fields.proofs.inner.parts.Numbers as N

@@ -6,12 +6,12 @@ use Prim.Native.Nat.{ℕ, _+_, _-_, _%_}
 use lib.ListN.{length}
 use denote.Ref.{RefT}
 use Rattle.codes.specs.Codes.{per}
-use Rattle.codes.specs.Refusals.{Answer, first, answer, ifDone, numberOf}
+use Rattle.codes.specs.Refusals.{Answer, first, answer, ifDone, numberOf, viewTests}
 use Rattle.codes.specs.declared.refusals.Outcome.{Outcome}
 use Rattle.codes.specs.declared.refusals.Outcome.the-variants.{Done, Refused}
 use Rattle.codes.proofs.RefusalLaws.{outcomeAt, outcomeAt-number}
 use Rattle.fields.specs.Answers.{numbersSay}
-use Rattle.fields.specs.Fields.{viewTests, sliceTests}
+use Rattle.fields.specs.Fields.{sliceTests}
 use Rattle.fields.specs.Spans.{Span, spanOf, front, normalPart}
 use Rattle.fields.specs.declared.inner.parts.Numbers.{Numbers}
 use Rattle.views.specs.Answers.{partSays}

@@ -10,12 +10,12 @@ use Rattle.codes.specs.Refusals.{Answer, first, ifDone, numberOf, badEnd, badSt
 use Rattle.codes.specs.declared.refusals.Outcome.{Outcome}
 use Rattle.codes.specs.declared.refusals.Outcome.the-variants.{Done, Refused}
 use Rattle.codes.proofs.CharLaws.{same-length}
+use Rattle.codes.proofs.Viewed.{Same, viewed}
 use Rattle.fields.specs.Fields.{sliceTests}
 use Rattle.fields.specs.Spans.{Span}
 use Rattle.fields.proofs.ViewLaws.{slice-cut}
 use Rattle.views.specs.Views.{Lent, lent, empty, sliced, normalised}
 use Rattle.views.proofs.SliceLaws.{chars-between, normalised-holds}
-use Rattle.views.proofs.Viewed.{Same, viewed}
 
 -- the characters of a part
 abbrev pub charsIn : ℕ → Lent → List ℕ
@@ -63,7 +63,7 @@ module _ {w : ℕ} (s t : Span) {o m p n : ℕ} (v : Same w (s .bytes) o m (t .b
     sliced-viewed =
         let q : Outcome = first (sliceTests w (length (s .bytes)) o m start end) in
         let r : Outcome = first (sliceTests w (length (t .bytes)) p n start end) in
-        let e : q ≡ r = viewed v (λ k. badEnd k end ∷ badStart start end ∷ []) (λ u k cs. u) in
+        let e : q ≡ r = viewed v (λ k _. badEnd k end ∷ badStart start end ∷ []) (λ u k cs. u) in
         let x : Lent = lent s (o + start) (end - start) in
         let y : Lent = lent t (p + start) (end - start) in
         record {

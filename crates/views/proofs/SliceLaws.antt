@@ -10,14 +10,14 @@ use lib.ListN.{length, getD, take, drop, length-drop}
 use lib.Seq.{length-take-le, take-at, drop-at, getD-take, getD-drop}
 use borrow.Author.Tests.{le-ltb, le-leb}
 use Rattle.codes.specs.Codes.{IsWidth, per, up, trailing, chars}
-use Rattle.codes.specs.Refusals.{Test, Answer, ifDone, answer, first, badIndex, badEnd, badStart, badView}
+use Rattle.codes.specs.Refusals.{Test, Answer, ifDone, answer, first, badIndex, badEnd, badStart, badView, viewTests}
 use Rattle.codes.specs.declared.refusals.Outcome.{Outcome}
 use Rattle.codes.specs.declared.refusals.Outcome.the-variants.{Done, Refused}
 use Rattle.codes.specs.declared.refusals.Refusal.the-variants.{TooLong, BadView, BadRange}
 use Rattle.codes.proofs.CharLaws.{length-chars, chars-append}
 use Rattle.codes.proofs.WidthLaws.{up-hi, below-or}
 use Rattle.codes.proofs.OutcomeLaws.{first-next, first-holds, first-done, first-refused, first-both}
-use Rattle.fields.specs.Fields.{viewTests, sliceTests, got}
+use Rattle.fields.specs.Fields.{sliceTests, got}
 use Rattle.fields.specs.Spans.{Span, normalPart}
 use Rattle.fields.proofs.ViewLaws.{Room, view-accepted, slice-cut, room-start, room-end, normal-length, normal-chars}
 use Rattle.views.specs.Views.{Lent, lent, empty, normal, made, sliced, normalised, gotSliced}

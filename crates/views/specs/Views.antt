@@ -4,8 +4,8 @@ use mathlib.Core.List.{List, [], _∷_, _++_}
 use Prim.Native.Nat.{ℕ, _+_, _-_, _%_}
 use lib.ListN.{length, getD}
 use Rattle.codes.specs.Codes.{per, chars}
-use Rattle.codes.specs.Refusals.{Answer, answer, first, badIndex}
-use Rattle.fields.specs.Fields.{viewTests, sliceTests}
+use Rattle.codes.specs.Refusals.{Answer, answer, first, badIndex, viewTests}
+use Rattle.fields.specs.Fields.{sliceTests}
 use Rattle.fields.specs.Spans.{Span, front, normalPart}
 
 -- a part that is handed back: its bytes with their place, its offset and its length

@@ -11,7 +11,7 @@ use native.Mathlib.Omega.{arith}
 use borrow.Author.Tests.{le-ltb}
 use lib.ListN.{length, getD, replicate, drop, List·getD-append}
 use Rattle.codes.specs.Codes.{pick, tab, chars, trailing}
-use Rattle.codes.specs.Refusals.{answer, first, ifDone}
+use Rattle.codes.specs.Refusals.{answer, first, ifDone, viewTests}
 use Rattle.codes.specs.Windows.{window}
 use Rattle.codes.specs.declared.refusals.Outcome.{Outcome}
 use Rattle.codes.specs.declared.refusals.Outcome.the-variants.{Done}
@@ -19,7 +19,6 @@ use Rattle.codes.proofs.CharLaws.{length-chars}
 use Rattle.codes.proofs.OutcomeLaws.{first-done}
 use Rattle.codes.proofs.TabLaws.{length-tab, getD-tab}
 use Rattle.codes.proofs.WidthLaws.{width-1, up-hi}
-use Rattle.fields.specs.Fields.{viewTests}
 use Rattle.lanes.specs.Lanes.{lane, padding, steps}
 use Rattle.stores.specs.Changes.{Overwrites}
 use Rattle.stores.specs.History.{Store, step, run, history, flagsOf}

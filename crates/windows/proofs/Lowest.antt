@@ -6,9 +6,8 @@ use mathlib.Core.Path.{refl}
 use Prim.Native.Nat.{ℕ}
 use lib.ListN.{length}
 use Rattle.codes.specs.Codes.{chars}
-use Rattle.codes.specs.Refusals.{numberOf}
+use Rattle.codes.specs.Refusals.{numberOf, viewTests}
 use Rattle.codes.proofs.Lowest.{Lowest, first-lowest}
-use Rattle.fields.specs.Fields.{viewTests}
 use Rattle.windows.specs.Windows.{Running, fillTests, runTests, windowsOutcome, runOutcome}
 
 module _ (bs : List ℕ) (o len c k : ℕ) where

@@ -12,7 +12,7 @@ use lib.ListN.{length, getD, replicate}
 use lib.Pow.{pow-pos}
 use borrow.Author.Tests.{ltb-false, le-leb, lt-leb}
 use Rattle.codes.specs.Codes.{pick, tab, chars}
-use Rattle.codes.specs.Refusals.{first, ifDone}
+use Rattle.codes.specs.Refusals.{first, ifDone, viewTests}
 use Rattle.codes.specs.declared.refusals.Outcome.the-variants.{Done, Refused}
 use Rattle.codes.specs.declared.refusals.Outcome.{Outcome}
 use Rattle.codes.specs.declared.refusals.Refusal.{Refusal}
@@ -20,7 +20,6 @@ use Rattle.codes.specs.declared.refusals.Refusal.the-variants.{BadStream}
 use Rattle.codes.proofs.CodeLaws.{pick-lt}
 use Rattle.codes.proofs.TabLaws.{getD-tab, tab-ext, Below-tab, Below-getD}
 use Rattle.codes.proofs.WordLaws.{Below}
-use Rattle.fields.specs.Fields.{viewTests}
 use Rattle.codes.proofs.OutcomeLaws.{or-true, first-both, first-refused}
 use Rattle.lanes.specs.Lanes.{lane, steps, badShape, laneChar, lanes}
 use Rattle.streams.specs.Streams.{badStep}

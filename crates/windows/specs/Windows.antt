@@ -6,11 +6,10 @@ use Prim.Native.Nat.{ℕ, zero, suc, _+_, _-_, _*_, _/_, _%_, min}
 use lib.Dec.{ltb}
 use lib.ListN.{length, getD, drop, replicate}
 use Rattle.codes.specs.Codes.{pick, tab, chars}
-use Rattle.codes.specs.Refusals.{Test, Answer, answer, first, ifDone, noRoom}
+use Rattle.codes.specs.Refusals.{Test, Answer, answer, first, ifDone, noRoom, viewTests}
 use Rattle.codes.specs.Windows.{window}
 use Rattle.codes.specs.declared.refusals.Outcome.{Outcome}
 use Rattle.codes.specs.declared.refusals.Refusal.the-variants.{BadStream}
-use Rattle.fields.specs.Fields.{viewTests}
 use Rattle.lanes.specs.Lanes.{lane, padding, steps, badShape, laneChar}
 use Rattle.streams.specs.Streams.{badStep}
 

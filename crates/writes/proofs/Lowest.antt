@@ -6,9 +6,8 @@ use mathlib.Core.Path.{refl}
 use Prim.Native.Nat.{ℕ, _+_}
 use lib.ListN.{length}
 use Rattle.codes.specs.Codes.{up, trailing}
-use Rattle.codes.specs.Refusals.{numberOf, noRoom}
+use Rattle.codes.specs.Refusals.{numberOf, noRoom, viewTests}
 use Rattle.codes.proofs.Lowest.{Lowest, first-lowest}
-use Rattle.fields.specs.Fields.{viewTests}
 use Rattle.writes.specs.Writes.{unpackOutcome, flipOutcome}
 
 module _ (bs : List ℕ) (o len : ℕ) (out : List ℕ) where

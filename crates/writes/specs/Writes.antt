@@ -4,10 +4,10 @@ use mathlib.Core.List.{List, [], _∷_, _++_, map}
 use Prim.Native.Nat.{ℕ, _+_}
 use lib.ListN.{length, drop, replicate}
 use Rattle.codes.specs.Codes.{up, trailing, charAt, chars, letter}
-use Rattle.codes.specs.Refusals.{first, noRoom}
+use Rattle.codes.specs.Refusals.{first, noRoom, viewTests}
 use Rattle.codes.specs.Words.{packed}
 use Rattle.codes.specs.declared.refusals.Outcome.{Outcome}
-use Rattle.fields.specs.Fields.{viewTests, flipped}
+use Rattle.fields.specs.Fields.{flipped}
 
 -- the letter of base o + j
 abbrev pub letterAt : List ℕ → ℕ → ℕ → ℕ

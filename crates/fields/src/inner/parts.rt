@@ -16,10 +16,10 @@ ghost use Prim.Native.Nat.{_+_, _-_, _%_};
 ghost use lib.ListN.{length};
 ghost use Rattle.codes.specs.Answers.{symbolSays};
 ghost use Rattle.codes.specs.Codes.{IsWidth, per};
-ghost use Rattle.codes.specs.Refusals.{answer, first, ifDone};
+ghost use Rattle.codes.specs.Refusals.{answer, first, ifDone, viewTests};
 ghost use Rattle.codes.specs.declared.refusals.Outcome.the-variants.{Done};
 ghost use Rattle.fields.specs.Answers.{numbersSay};
-ghost use Rattle.fields.specs.Fields.{viewTests, sliceTests, got};
+ghost use Rattle.fields.specs.Fields.{sliceTests, got};
 ghost use Rattle.fields.specs.Spans.{spanOf, front, normalPart};
 
 // The offset and the length of a part, zeros where it is refused.

@@ -17,10 +17,10 @@ ghost use Prim.Native.Nat.{_+_, _*_, _^_, _≤_};
 ghost use lib.ListN.{length};
 ghost use Rattle.codes.specs.Answers.{wordSays, word128Says};
 ghost use Rattle.codes.specs.Codes.{IsWidth, chars};
-ghost use Rattle.codes.specs.Refusals.{first};
+ghost use Rattle.codes.specs.Refusals.{first, viewTests};
 ghost use Rattle.codes.specs.Words.{word};
 ghost use Rattle.codes.specs.declared.refusals.Outcome.the-variants.{Done};
-ghost use Rattle.fields.specs.Fields.{viewTests, wordTests, asU64, asU128, flippedAsU64, flippedAsU128};
+ghost use Rattle.fields.specs.Fields.{wordTests, asU64, asU128, flippedAsU64, flippedAsU128};
 
 // The refusals of a view's word, whose length runs from `least` to what `bits` hold.
 fn word_outcome(

@@ -11,11 +11,10 @@ ghost use mathlib.Core.Path.{_≡_};
 ghost use Prim.Native.Nat.{_+_, _≤_};
 ghost use lib.ListN.{length, take, drop};
 ghost use Rattle.codes.specs.Codes.{IsWidth, up, trailing, chars};
-ghost use Rattle.codes.specs.Refusals.{first};
+ghost use Rattle.codes.specs.Refusals.{first, viewTests};
 ghost use Rattle.codes.specs.Words.{charsOf, packed};
 ghost use Rattle.codes.specs.declared.refusals.Outcome.the-variants.{Done};
 ghost use Rattle.forms.specs.Forms.{spareClear, filledWith};
-ghost use Rattle.fields.specs.Fields.{viewTests};
 
 // Writes the k low bytes of x at `at`.
 fn put_bytes(x: u64, k: usize, out: &mut [u8], at: usize)

@@ -14,11 +14,10 @@ ghost use mathlib.Core.Path.{_≡_};
 ghost use Prim.Native.Nat.{suc, _≤_, _^_};
 ghost use lib.ListN.{length, drop};
 ghost use Rattle.codes.specs.Codes.{chars};
-ghost use Rattle.codes.specs.Refusals.{first};
+ghost use Rattle.codes.specs.Refusals.{first, viewTests};
 ghost use Rattle.codes.specs.declared.refusals.Outcome.the-variants.{Done};
 ghost use Rattle.forms.specs.Forms.{formSize, stored, writeTests};
 ghost use Rattle.forms.specs.Numbers.{spelt};
-ghost use Rattle.fields.specs.Fields.{viewTests};
 
 // The bytes of a form.
 pub(crate) fn form_size(len: Chars) -> Bytes

@@ -7,9 +7,8 @@ ghost use Prim.Native.Nat.{ℕ, _+_, _-_, _*_, _/_, _%_, _^_, _≤_, _<_};
 ghost use lib.ListN.{length, getD};
 ghost use Rattle.codes.specs.Codes.{IsWidth, chars};
 ghost use Rattle.codes.specs.Made.{Made};
-ghost use Rattle.codes.specs.Refusals.{first};
+ghost use Rattle.codes.specs.Refusals.{first, viewTests};
 ghost use Rattle.codes.specs.declared.refusals.Outcome.the-variants.{Done};
-ghost use Rattle.fields.specs.Fields.{viewTests};
 ghost use Rattle.lanes.specs.Turns.{Holds, turned};
 
 // The characters from character i of the view on, as many as 64 bits hold; zeros from the end on.

@@ -14,10 +14,9 @@ ghost use mathlib.Core.Path.{_≡_};
 ghost use Prim.Native.Nat.{_+_, _*_, _/_, _%_, _^_, _≤_, _<_};
 ghost use lib.ListN.{length, drop};
 ghost use Rattle.codes.specs.Codes.{IsWidth, complement, up, trailing};
-ghost use Rattle.codes.specs.Refusals.{first, ifDone};
+ghost use Rattle.codes.specs.Refusals.{first, ifDone, viewTests};
 ghost use Rattle.codes.specs.Words.{word, charsOf, flip};
 ghost use Rattle.codes.specs.declared.refusals.Outcome.the-variants.{Done};
-ghost use Rattle.fields.specs.Fields.{viewTests};
 ghost use Rattle.writes.specs.Writes.{flipOutcome, flippedOver};
 
 // The next word of output, where `left` bits from bit p on are still to be reversed.

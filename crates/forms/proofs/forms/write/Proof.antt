@@ -5,10 +5,9 @@ use Prim.Native.Nat.{ℕ}
 use lib.ListN.{length, drop}
 use borrow.Author.Needs.{needs}
 use Rattle.codes.specs.Codes.{chars}
-use Rattle.codes.specs.Refusals.{first}
+use Rattle.codes.specs.Refusals.{first, viewTests}
 use Rattle.codes.specs.declared.refusals.Outcome.{Outcome}
 use Rattle.codes.specs.declared.refusals.Outcome.the-variants.{Done, Refused}
-use Rattle.fields.specs.Fields.{viewTests}
 use Rattle.codes.proofs.OutcomeLaws.{answer-done, answer-refused, gives-done, gives-refused}
 use Rattle.forms.specs.Forms.{writeOutcome, writeAnswer, writeAfter, formSize, stored}
 use Rattle.forms.proofs.OutcomeLaws.{Writable, write-done}

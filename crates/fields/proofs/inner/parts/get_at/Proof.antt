@@ -6,10 +6,10 @@ use native.Mathlib.Omega.{arith}
 use lib.Dec.{leb}
 use lib.ListN.{length}
 use Rattle.codes.specs.Codes.{charAt, per}
-use Rattle.codes.specs.Refusals.{first, badIndex}
+use Rattle.codes.specs.Refusals.{first, badIndex, viewTests}
 use Rattle.codes.proofs.CharLaws.{getD-chars}
 use Rattle.codes.proofs.OutcomeLaws.{first-then, answer-refused, answer-done}
-use Rattle.fields.specs.Fields.{viewTests, got}
+use Rattle.fields.specs.Fields.{got}
 use Rattle.fields.proofs.ViewLaws.{Within, index-within, room-sum, room-char}
 use borrow.Author.Needs.{needs}
 use Rattle.fields.proofs.inner.parts.get_at.Statement.{statement}

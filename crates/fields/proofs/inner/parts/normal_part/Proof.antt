@@ -1,8 +1,7 @@
 -- The part of an accepted view, and nothing beside a refusal. Assumes nothing.
 use mathlib.Core.Path.{sym, _∙_}
 use lib.ListN.{length}
-use Rattle.codes.specs.Refusals.{first}
-use Rattle.fields.specs.Fields.{viewTests}
+use Rattle.codes.specs.Refusals.{first, viewTests}
 use Rattle.fields.specs.Spans.{spanOf, front}
 use Rattle.codes.proofs.OutcomeLaws.{gives-done, gives-refused}
 use borrow.Author.Needs.{needs}

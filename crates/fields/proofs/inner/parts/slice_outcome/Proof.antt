@@ -3,9 +3,8 @@ use mathlib.Core.List.{[], _∷_, _++_}
 use mathlib.Core.Path.{ap₂}
 use lib.Dec.{ltb}
 use lib.ListN.{length}
-use Rattle.codes.specs.Refusals.{badEnd, badStart}
+use Rattle.codes.specs.Refusals.{badEnd, badStart, viewTests}
 use Rattle.codes.proofs.OutcomeLaws.{first-then}
-use Rattle.fields.specs.Fields.{viewTests}
 use borrow.Author.Needs.{needs}
 use Rattle.fields.proofs.inner.parts.slice_outcome.Statement.{statement}
 use Rattle.fields.proofs.inner.parts.slice_outcome.Tie as tie

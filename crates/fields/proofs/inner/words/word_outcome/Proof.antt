@@ -1,10 +1,9 @@
 -- The view's tests, and then the word's. Assumes nothing.
 use Prim.Native.Nat.{_/_}
 use lib.ListN.{length}
-use Rattle.codes.specs.Refusals.{badWord}
+use Rattle.codes.specs.Refusals.{badWord, viewTests}
 use Rattle.codes.proofs.OutcomeLaws.{first-then}
 use Rattle.codes.proofs.WidthLaws.{width-pos}
-use Rattle.fields.specs.Fields.{viewTests}
 use borrow.Author.Needs.{needs}
 use Rattle.fields.proofs.inner.words.word_outcome.Statement.{statement}
 use Rattle.fields.proofs.inner.words.word_outcome.Tie as tie

@@ -6,10 +6,9 @@ use native.Mathlib.Omega.{arith}
 use lib.ListN.{length, drop}
 use borrow.Author.Needs.{needs}
 use Rattle.codes.specs.Codes.{up, chars}
-use Rattle.codes.specs.Refusals.{first}
+use Rattle.codes.specs.Refusals.{first, viewTests}
 use Rattle.codes.specs.declared.refusals.Outcome.the-variants.{Done}
 use Rattle.codes.proofs.WidthLaws.{width-1, width-2, up-le}
-use Rattle.fields.specs.Fields.{viewTests}
 use Rattle.forms.specs.Forms.{stored, formSize}
 use Rattle.forms.specs.Numbers.{spelt}
 use Rattle.forms.proofs.FormLaws.{form-written}

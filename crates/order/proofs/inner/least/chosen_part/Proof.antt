@@ -3,10 +3,9 @@ use mathlib.Core.Bool.{Bool, true, false}
 use mathlib.Core.Path.{_≡_, refl, sym, ap, ap₂, _∙_}
 use lib.ListN.{length}
 use Rattle.codes.specs.Codes.{pick}
-use Rattle.codes.specs.Refusals.{first, ifDone}
+use Rattle.codes.specs.Refusals.{first, ifDone, viewTests}
 use Rattle.codes.specs.declared.refusals.Outcome.{Outcome}
 use Rattle.codes.specs.declared.refusals.Outcome.the-variants.{Done}
-use Rattle.fields.specs.Fields.{viewTests}
 use Rattle.fields.specs.Spans.{Span, spanOf, front, normalPart}
 use Rattle.order.specs.Order.{chosen}
 use Rattle.order.specs.declared.inner.least.Choice.{Choice}

@@ -5,9 +5,8 @@ use Prim.Native.Nat.{ℕ}
 use native.Mathlib.Omega.{arith}
 use lib.ListN.{length, drop}
 use Rattle.codes.specs.Codes.{letter, chars}
-use Rattle.codes.specs.Refusals.{Test, first, noRoom}
+use Rattle.codes.specs.Refusals.{Test, first, noRoom, viewTests}
 use Rattle.codes.specs.declared.refusals.Outcome.the-variants.{Done}
-use Rattle.fields.specs.Fields.{viewTests}
 use Rattle.writes.specs.Writes.{unpackOutcome, unpackedOver}
 use Rattle.writes.proofs.LetterLaws.{letters-all}
 use Rattle.codes.proofs.OutcomeLaws.{first-done, first-refused, room-short, room-right}

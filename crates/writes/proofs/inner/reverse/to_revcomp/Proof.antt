@@ -5,10 +5,9 @@ use Prim.Native.Nat.{ℕ, _+_}
 use native.Mathlib.Omega.{arith}
 use lib.ListN.{length}
 use Rattle.codes.specs.Codes.{up, trailing}
-use Rattle.codes.specs.Refusals.{Test, first, noRoom}
+use Rattle.codes.specs.Refusals.{Test, first, noRoom, viewTests}
 use Rattle.codes.specs.declared.refusals.Outcome.the-variants.{Done}
 use Rattle.codes.proofs.WidthLaws.{up-le}
-use Rattle.fields.specs.Fields.{viewTests}
 use Rattle.writes.specs.Writes.{flipOutcome, flippedOver}
 use Rattle.fields.proofs.LoadLaws.{view-bits}
 use Rattle.codes.proofs.OutcomeLaws.{first-done, first-refused, room-short, room-right}
