@@ -2,7 +2,8 @@
 use plain::inner::form;
 ghost use mathlib.Core.Path.{_≡_};
 ghost use Rattle.given.specs.Face.{said};
-ghost use Rattle.forms.specs.Forms.{writeAnswer, writeAfter, readAnswer, basesAfter, flagsAfter};
+ghost use Rattle.forms.specs.Forms.{writeAnswer, writeAfter};
+ghost use Rattle.forms.specs.Reading.{readAnswer, basesAfter, flagsAfter};
 
 #[no_mangle]
 pub extern "C" fn tsiv_form_write(

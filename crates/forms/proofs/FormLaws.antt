@@ -2,7 +2,7 @@
 -- Assumes nothing.
 use mathlib.Core.Bool.{Bool, true, false, _&&_}
 use mathlib.Core.List.{List, [], _∷_, _++_, append-assoc}
-use mathlib.Core.Option.{Option, some, none}
+use mathlib.Core.Option.{some, none}
 use mathlib.Core.Path.{_≡_, refl, sym, ap, ap₂, _∙_, subst}
 use Prim.Native.Nat.{ℕ, suc, _+_, _^_, _≤_, _<_}
 use native.Mathlib.Nat.{add-assoc}
@@ -15,7 +15,8 @@ use Rattle.codes.specs.Words.{packed}
 use Rattle.codes.proofs.CharLaws.{length-chars}
 use Rattle.codes.proofs.WidthLaws.{width-2}
 use Rattle.codes.proofs.WordLaws.{Below}
-use Rattle.forms.specs.Forms.{stored, formSize, headOf, hasHead, lengthOf, bodyOf, spareClear, rightTracks, isForm, formLength}
+use Rattle.forms.specs.Forms.{stored, formSize}
+use Rattle.forms.specs.Reading.{headOf, soundFrom, lengthOf, spareClear, rightTracks, isForm, formLength}
 use Rattle.forms.specs.Numbers.{Spelling, spelt, spelling, Fits}
 use Rattle.forms.proofs.NumberLaws.{spelling-fits}
 use Rattle.forms.proofs.TrackLaws.{length-packed}
@@ -73,18 +74,13 @@ head-fits (b ∷ bs) h = by (eqb b 1)
 
 -- ---- whether bytes are a form, where the head is known
 
-abbrev isFormBy : Option Spelling → List ℕ → Bool
-isFormBy h bs = hasHead h && (leb (lengthOf h) (2 ^ 29) && rightTracks bs (lengthOf h) (bodyOf h))
-
-isForm-by : (bs : List ℕ) → isForm bs ≡ isFormBy (headOf bs) bs
-unfolding isForm
-isForm-by bs = refl
-
 pub isForm-none : (bs : List ℕ) → headOf bs ≡ none → isForm bs ≡ false
-isForm-none bs e = isForm-by bs ∙ ap (λ (h : Option Spelling). isFormBy h bs) e
+unfolding isForm
+isForm-none bs e = ap (soundFrom bs) e
 
 pub isForm-some : (bs : List ℕ) (s : Spelling) → headOf bs ≡ some s → isForm bs ≡ (leb (s .value) (2 ^ 29) && rightTracks bs (s .value) (suc (s .size)))
-isForm-some bs s e = isForm-by bs ∙ ap (λ (h : Option Spelling). isFormBy h bs) e
+unfolding isForm
+isForm-some bs s e = ap (soundFrom bs) e
 
 pub isForm-long : (bs : List ℕ) (s : Spelling) → headOf bs ≡ some s → 2 ^ 29 < s .value → isForm bs ≡ false
 isForm-long bs s e h = isForm-some bs s e ∙ ap (λ (b : Bool). b && rightTracks bs (s .value) (suc (s .size))) (lt-leb (s .value) (2 ^ 29) h)

@@ -7,7 +7,8 @@ use Prim.Native.Nat.{ℕ}
 use lib.ListN.{length}
 use Rattle.codes.specs.Refusals.{numberOf}
 use Rattle.codes.proofs.Lowest.{Lowest, first-lowest}
-use Rattle.forms.specs.Forms.{writeTests, writeOutcome, readTests, readOutcome}
+use Rattle.forms.specs.Forms.{writeTests, writeOutcome}
+use Rattle.forms.specs.Reading.{readTests, readOutcome}
 
 pub write-lowest : (xs : List ℕ) (ao al : ℕ) (ys : List ℕ) (bo bl : ℕ) (out : List ℕ)
     → Lowest (numberOf (writeOutcome xs ao al ys bo bl out)) (writeTests (length xs) ao al (length ys) bo bl (length out))

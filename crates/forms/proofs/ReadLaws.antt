@@ -16,7 +16,7 @@ use Rattle.codes.specs.Refusals.{answer, first}
 use Rattle.codes.specs.declared.refusals.Outcome.{Outcome}
 use Rattle.codes.specs.declared.refusals.Outcome.the-variants.{Done}
 use Rattle.codes.proofs.RefusalLaws.{answer-outcome, answer-values}
-use Rattle.forms.specs.Forms.{headOf, bodyOf, isForm, formLength, baseBytes, flagBytes, rightTracks, spareClear, readTests}
+use Rattle.forms.specs.Reading.{headOf, bodyOf, isForm, formLength, baseBytes, flagBytes, rightTracks, spareClear, readTests}
 use Rattle.forms.specs.Numbers.{Spelling}
 use Rattle.forms.proofs.FormLaws.{isForm-none, isForm-some, formLength-is}
 use Rattle.forms.proofs.OutcomeLaws.{first-none}

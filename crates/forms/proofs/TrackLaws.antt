@@ -22,7 +22,7 @@ use Rattle.codes.proofs.TabLaws.{word-at}
 use Rattle.codes.proofs.Turns.{put-on}
 use Rattle.codes.proofs.WidthLaws.{below-or, per-pos, up-hi, up-above, up-whole, shift-lt}
 use Rattle.codes.proofs.WordLaws.{Below, word-lt, word-charsOf, charsOf-word, charsOf-add, charsOf-fit, charsOf-mod, length-charsOf}
-use Rattle.forms.specs.Forms.{allZero, spareClear}
+use Rattle.forms.specs.Reading.{allZero, spareClear}
 
 -- k bytes more of x behind i
 bytes-on : (i k x y : ℕ) (old out out′ : List ℕ) → out ≡ charsOf 8 i x ++ drop i old → charsOf 8 k y ≡ charsOf 8 k (x / 2 ^ (8 * i)) → out′ ≡ take i out ++ (charsOf 8 k y ++ drop (i + k) out)

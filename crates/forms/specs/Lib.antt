@@ -1,3 +1,4 @@
 pub mod Numbers
 pub mod Forms
+pub mod Reading
 pub mod Answers

@@ -11,7 +11,8 @@ use codes::refusals::Outcome;
 use codes::units::Chars;
 ghost use mathlib.Core.Path.{_≡_};
 ghost use Rattle.forms.specs.Answers.{wroteSays, restoredSays};
-ghost use Rattle.forms.specs.Forms.{writeAnswer, writeAfter, readAnswer, basesAfter, flagsAfter};
+ghost use Rattle.forms.specs.Forms.{writeAnswer, writeAfter};
+ghost use Rattle.forms.specs.Reading.{readAnswer, basesAfter, flagsAfter};
 
 // Writes the form of a view of bases and a view of flags.
 pub fn write(

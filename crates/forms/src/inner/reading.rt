@@ -14,7 +14,7 @@ ghost use Prim.Native.Nat.{_≤_, _<_, _^_};
 ghost use Rattle.codes.specs.Codes.{pick};
 ghost use Rattle.codes.specs.Refusals.{answer, first};
 ghost use Rattle.forms.specs.Answers.{spelledSays, checkedSays};
-ghost use Rattle.forms.specs.Forms.{headOf, bodyOf, isForm, rightTracks, formLength, formTests, readTests};
+ghost use Rattle.forms.specs.Reading.{headOf, bodyOf, isForm, rightTracks, formLength, formTests, readTests};
 
 // The length of a form that can be read, and where its base bytes begin.
 pub enum Checked {

@@ -14,7 +14,7 @@ ghost use Rattle.codes.specs.Codes.{IsWidth, up, trailing, chars};
 ghost use Rattle.codes.specs.Refusals.{first, viewTests};
 ghost use Rattle.codes.specs.Words.{charsOf, packed};
 ghost use Rattle.codes.specs.declared.refusals.Outcome.the-variants.{Done};
-ghost use Rattle.forms.specs.Forms.{spareClear, filledWith};
+ghost use Rattle.forms.specs.Reading.{spareClear, filledWith};
 
 // Writes the k low bytes of x at `at`.
 fn put_bytes(x: u64, k: usize, out: &mut [u8], at: usize)

@@ -3,7 +3,8 @@ use codes::units::Chars;
 use given::inner::give;
 ghost use mathlib.Core.Path.{_≡_};
 ghost use Rattle.given.specs.Face.{said};
-ghost use Rattle.forms.specs.Forms.{writeAnswer, writeAfter, readAnswer, basesAfter, flagsAfter};
+ghost use Rattle.forms.specs.Forms.{writeAnswer, writeAfter};
+ghost use Rattle.forms.specs.Reading.{readAnswer, basesAfter, flagsAfter};
 
 pub fn write(
     bases: &[u8],

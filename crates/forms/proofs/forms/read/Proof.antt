@@ -11,7 +11,7 @@ use Rattle.codes.specs.declared.refusals.Outcome.the-variants.{Refused}
 use Rattle.codes.proofs.RefusalLaws.{answer-outcome}
 use Rattle.codes.proofs.OutcomeLaws.{answer-done, answer-refused, gives-done, gives-refused}
 use Rattle.forms.specs.Answers.{checkedSays}
-use Rattle.forms.specs.Forms.{readOutcome, readAnswer, basesAfter, flagsAfter, filledWith, baseBytes, flagBytes, formLength}
+use Rattle.forms.specs.Reading.{readOutcome, readAnswer, basesAfter, flagsAfter, filledWith, baseBytes, flagBytes, formLength}
 use Rattle.forms.proofs.ReadLaws.{Readable, readable, length-part, rest-is, base-lent, flag-lent}
 use Rattle.forms.proofs.forms.read.Statement.{statement}
 use Rattle.forms.proofs.forms.read.Tie as tie

@@ -7,7 +7,7 @@ use borrow.Author.Needs.{needs}
 use borrow.Author.Tests.{not-true, not-false}
 use Rattle.codes.proofs.TabLaws.{Below-of}
 use Rattle.forms.specs.Answers.{spelledSays}
-use Rattle.forms.specs.Forms.{headOf, isForm, rightTracks}
+use Rattle.forms.specs.Reading.{headOf, isForm, rightTracks}
 use Rattle.forms.specs.Numbers.{Spelling, Fits}
 use Rattle.forms.proofs.FormLaws.{head-fits, isForm-none, isForm-long, isForm-tracks}
 use Rattle.forms.proofs.inner.reading.check_form.Statement.{statement}

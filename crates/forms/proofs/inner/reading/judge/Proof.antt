@@ -13,7 +13,7 @@ use Rattle.codes.specs.declared.refusals.Refusal.the-variants.{BadForm, NoRoom}
 use Rattle.codes.proofs.TabLaws.{Below-of}
 use Rattle.codes.proofs.OutcomeLaws.{answer-done}
 use Rattle.forms.specs.Answers.{spelledSays}
-use Rattle.forms.specs.Forms.{formTests, headOf, bodyOf, formLength}
+use Rattle.forms.specs.Reading.{formTests, headOf, bodyOf, formLength}
 use Rattle.forms.specs.Numbers.{Spelling}
 use Rattle.forms.proofs.FormLaws.{Judged, checked-none, checked-some}
 use Rattle.forms.proofs.OutcomeLaws.{first-at, answer-at}

@@ -8,7 +8,7 @@ use lib.Seq.{take-all}
 use borrow.Author.Needs.{needs}
 use borrow.Author.Tests.{not-true, not-false}
 use Rattle.codes.specs.Codes.{up}
-use Rattle.forms.specs.Forms.{spareClear}
+use Rattle.forms.specs.Reading.{spareClear}
 use Rattle.forms.proofs.FormLaws.{tracks-end, tracks-base, tracks-flag}
 use Rattle.forms.proofs.inner.reading.right_tracks.Statement.{statement}
 use Rattle.forms.proofs.inner.reading.right_tracks.Tie as tie
