@@ -1,4 +1,4 @@
--- One view: bytes, an offset and a length, whose meaning is the list of their characters; when it is refused, its characters and its words.
+-- One view: bytes, an offset and a length, whose meaning is the list of their characters; a character of it, its words, and when they are refused.
 -- Assumes nothing.
 use mathlib.Core.List.{List, [], _∷_, _++_, map, reverse}
 use Prim.Native.Nat.{ℕ, _/_}

@@ -12,11 +12,12 @@ use Rattle.codes.specs.declared.refusals.Outcome.{Outcome}
 use Rattle.codes.specs.declared.refusals.Refusal.the-variants.{BadForm}
 use Rattle.forms.specs.Numbers.{Spelling, spelling}
 
--- n, and where the base bytes begin
+-- byte 1, then n: its value, and how many bytes it takes
 unfoldable pub headOf : List ℕ → Option Spelling
 headOf [] = none
 headOf (b ∷ bs) = pick (eqb b 1) (spelling 5 bs) none
 
+-- n, and where the base bytes begin
 abbrev pub lengthOf : Option Spelling → ℕ
 lengthOf none = 0
 lengthOf (some s) = s .value
@@ -51,11 +52,12 @@ abbrev pub rightTracks : List ℕ → ℕ → ℕ → Bool
 rightTracks bs n body =
     eqb (length bs) (body + (up 2 n + up 1 n)) && (spareClear 2 n (take (up 2 n) (drop body bs)) && spareClear 1 n (drop (body + up 2 n) bs))
 
--- a sound n of at most 2^29, just the base bytes and the flag bytes, and no spare bit set
+-- behind such a head: n is at most 2^29, then just the base bytes and the flag bytes, and no spare bit set
 abbrev pub soundFrom : List ℕ → Option Spelling → Bool
 soundFrom bs none = false
 soundFrom bs (some s) = leb (s .value) (2 ^ 29) && rightTracks bs (s .value) (suc (s .size))
 
+-- byte 1, a sound n, and what is to stand behind them
 unfoldable pub isForm : List ℕ → Bool
 unfolding headOf
 isForm bs = soundFrom bs (headOf bs)

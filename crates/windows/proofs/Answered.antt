@@ -29,7 +29,7 @@ use Rattle.stores.proofs.WindowsKept.{windows-kept}
 use Rattle.streams.proofs.Stepping.{at-step, at-lane}
 use Rattle.windows.proofs.RunLaws.{window-open}
 use Rattle.windows.proofs.WindowFillLaws.{windows-open}
-use Rattle.windows.specs.Windows.{laneWindow, windowsFilled, Running, stepAnswers, stepState, fillTests, windowsOutcome, windowsAnswer, windowsAfter, runTests, runOutcome, runAnswers, runState}
+use Rattle.windows.specs.Windows.{laneWindow, windowsFilled, Running, atZero, stepAnswers, stepState, fillTests, windowsOutcome, windowsAnswer, windowsAfter, runTests, runOutcome, runAnswers, runState}
 
 -- an accepted view whose flags are h
 module _ (xs : List ℕ) (p m : ℕ) (h : List ℕ) (are : chars 1 xs p m ≡ h) (taken : first (viewTests 1 (length xs) p m) ≡ Done) (c k : ℕ) where
@@ -61,9 +61,9 @@ module _ (xs : List ℕ) (p m : ℕ) (h : List ℕ) (are : chars 1 xs p m ≡ h)
     unfolding runAnswers
     flags-answered = λ i. ifDone (flags-run i) (stepAnswers (are i) (lane 1 (count i) c 1) r) (replicate 8 0)
 
-    flags-stepped : runState xs p m c k r ≡ ifDone (first (runTests h (length h) c k r)) (stepState h (lane 1 (length h) c 1) k r) (record { counts = replicate 8 0; at = 0 })
+    flags-stepped : runState xs p m c k r ≡ ifDone (first (runTests h (length h) c k r)) (stepState h (lane 1 (length h) c 1) k r) atZero
     unfolding runState
-    flags-stepped = λ i. ifDone (flags-run i) (stepState (are i) (lane 1 (count i) c 1) k r) (record { counts = replicate 8 0; at = 0 })
+    flags-stepped = λ i. ifDone (flags-run i) (stepState (are i) (lane 1 (count i) c 1) k r) atZero
 
 -- an entry of a buffer that was filled
 filled-entry : (flags : List ℕ) (n k skip count : ℕ) (out : List ℕ) (j l : ℕ) → skip ≤ j → j - skip < count → l < 8
@@ -151,7 +151,7 @@ module _ (bs : List ℕ) (old : ℕ) (e : outcome 1 (length bs) 0 clear ≡ Done
   pub windows-run : (c k : ℕ) (r : Running)
       → (runOutcome (s .bytes) 0 (s .len) c k r ≡ first (runTests h (length h) c k r))
       × (runAnswers (s .bytes) 0 (s .len) c k r ≡ ifDone (first (runTests h (length h) c k r)) (stepAnswers h (lane 1 (length h) c 1) r) (replicate 8 0))
-      × (runState (s .bytes) 0 (s .len) c k r ≡ ifDone (first (runTests h (length h) c k r)) (stepState h (lane 1 (length h) c 1) k r) (record { counts = replicate 8 0; at = 0 }))
+      × (runState (s .bytes) 0 (s .len) c k r ≡ ifDone (first (runTests h (length h) c k r)) (stepState h (lane 1 (length h) c 1) k r) atZero)
   windows-run c k r = (
     flags-run (s .bytes) 0 (s .len) h are track-accepted c k r,
     flags-answered (s .bytes) 0 (s .len) h are track-accepted c k r,

@@ -68,13 +68,16 @@ stepState flags n k s = record { counts = tab 8 (λ l. summed flags n s l - leav
 
 -- ---- the calls on a view of bytes bs, offset o and length len
 
--- windows, at width 1 and factor 1
+-- windows have width 1 and factor 1
+abbrev pub shapeTests : ℕ → ℕ → List Test
+shapeTests c k = badShape c 1 ∷ badWindow k ∷ []
+
 abbrev pub windowTests : List ℕ → ℕ → ℕ → ℕ → ℕ → List Test
-windowTests bs o len c k = viewTests 1 (length bs) o len ++ badShape c 1 ∷ badWindow k ∷ []
+windowTests bs o len c k = viewTests 1 (length bs) o len ++ shapeTests c k
 
 -- filling windows over so many flags from `skip` on, into a buffer of m entries
 abbrev pub fillTests : ℕ → ℕ → ℕ → ℕ → ℕ → List Test
-fillTests len c k skip m = badShape c 1 ∷ badWindow k ∷ badSkip (steps 1 len c 1) skip ∷ noRoom m (8 * (steps 1 len c 1 - skip)) ∷ []
+fillTests len c k skip m = shapeTests c k ++ badSkip (steps 1 len c 1) skip ∷ noRoom m (8 * (steps 1 len c 1 - skip)) ∷ []
 
 unfoldable pub windowsOutcome : List ℕ → ℕ → ℕ → ℕ → ℕ → ℕ → ℕ → Outcome
 windowsOutcome bs o len c k skip m = first (viewTests 1 (length bs) o len ++ fillTests len c k skip m)
@@ -90,7 +93,7 @@ windowsAfter bs o len c k skip out =
 
 -- one step over flags, so many
 abbrev pub runTests : List ℕ → ℕ → ℕ → ℕ → Running → List Test
-runTests flags len c k s = badShape c 1 ∷ badWindow k ∷ badStep (steps 1 len c 1) (s .at) ∷ badState flags (lane 1 len c 1) k s ∷ []
+runTests flags len c k s = shapeTests c k ++ badStep (steps 1 len c 1) (s .at) ∷ badState flags (lane 1 len c 1) k s ∷ []
 
 unfoldable pub runOutcome : List ℕ → ℕ → ℕ → ℕ → ℕ → Running → Outcome
 runOutcome bs o len c k s = first (viewTests 1 (length bs) o len ++ runTests (chars 1 bs o len) len c k s)
