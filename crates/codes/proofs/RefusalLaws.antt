@@ -71,3 +71,8 @@ pub record Told {A R : Type 0} (says : R → Answer A) : Type 0 where
 -- what says the same is the same
 pub says-once : {A R : Type 0} {says : R → Answer A} → Told says → (r r′ : R) → says r ≡ says r′ → r ≡ r′
 says-once told r r′ e = told .back r ∙ ap (λ (x : Answer _). told .make (outcomeAt (x .no)) (x .values)) e ∙ sym (told .back r′)
+
+-- and where what is left in a buffer is the same too, both are
+pub leaves-once : {A B R : Type 0} {says : R → Answer A} → Told says → {a : Answer A} {b : B} (r r′ : R) {v v′ : B}
+    → (says r ≡ a) × (v ≡ b) → (says r′ ≡ a) × (v′ ≡ b) → _≡_ {A = R × B} (r, v) (r′, v′)
+leaves-once told r r′ p q = λ i. (says-once told r r′ (p .0 ∙ sym (q .0)) i, (p .1 ∙ sym (q .1)) i)

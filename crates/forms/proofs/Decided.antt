@@ -5,7 +5,7 @@ use Prim.Native.Nat.{ℕ}
 use Rattle.codes.specs.declared.refusals.Outcome.{Outcome}
 use Rattle.codes.specs.declared.refusals.Outcome.the-variants.{Done, Refused}
 use Rattle.codes.proofs.Permitted.{Once, skip}
-use Rattle.codes.proofs.RefusalLaws.{Told, outcomeAt, outcomeAt-number, says-once}
+use Rattle.codes.proofs.RefusalLaws.{Told, outcomeAt, outcomeAt-number, says-once, leaves-once}
 use Rattle.forms.specs.Answers.{wroteSays, restoredSays}
 use Rattle.forms.specs.declared.answers.Wrote.{Wrote}
 use Rattle.forms.specs.declared.answers.Wrote.the-variants as Wrote
@@ -39,10 +39,7 @@ pub restored-told : Told restoredSays
 restored-told = record { make = restoredOf; back = restored-back }
 
 pub write-decided : Once 3 write·kinds.ps write·kinds.r write.Post
-write-decided κs a x y v w p q =
-    let says = says-once wrote-told x y (p .0 ∙ sym (q .0)) in
-    let out = p .1 ∙ sym (q .1) in
-    λ i. (says i, skip 6 (out i, tt))
+write-decided κs a x y v w p q = λ i. let e = leaves-once wrote-told x y p q i in (e .0, skip 6 (e .1, tt))
 
 pub read-decided : Once 3 read·kinds.ps read·kinds.r read.Post
 read-decided κs a x y v w p q =

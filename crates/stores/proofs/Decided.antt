@@ -1,8 +1,7 @@
 -- For each public call: any two permitted outcomes coincide.
 -- Assumes nothing.
-use mathlib.Core.Path.{sym, _∙_}
 use Rattle.codes.proofs.Permitted.{Once, skip}
-use Rattle.codes.proofs.RefusalLaws.{says-once}
+use Rattle.codes.proofs.RefusalLaws.{leaves-once}
 use Rattle.stores.proofs.AnswerLaws.{pushed-told, kept-told}
 use Rattle.stores.proofs.bases.clear.Kinds as bases-clear·kinds
 use Rattle.stores.proofs.bases.clear.Reads as bases-clear
@@ -26,61 +25,31 @@ use Rattle.stores.proofs.flags.cut.Kinds as flags-cut·kinds
 use Rattle.stores.proofs.flags.cut.Reads as flags-cut
 
 pub bases-clear-decided : Once 1 bases-clear·kinds.ps bases-clear·kinds.r bases-clear.Post
-bases-clear-decided κs a x y v w p q =
-    let says = says-once kept-told x y (p .0 ∙ sym (q .0)) in
-    let bytes = p .1 ∙ sym (q .1) in
-    λ i. (says i, (bytes i, tt))
+bases-clear-decided κs a x y v w p q = λ i. let e = leaves-once kept-told x y p q i in (e .0, (e .1, tt))
 
 pub bases-push-ascii-decided : Once 2 bases-push-ascii·kinds.ps bases-push-ascii·kinds.r bases-push-ascii.Post
-bases-push-ascii-decided κs a x y v w p q =
-    let says = says-once pushed-told x y (p .0 ∙ sym (q .0)) in
-    let bytes = p .1 ∙ sym (q .1) in
-    λ i. (says i, (bytes i, skip 2 tt))
+bases-push-ascii-decided κs a x y v w p q = λ i. let e = leaves-once pushed-told x y p q i in (e .0, (e .1, skip 2 tt))
 
 pub bases-push-seq-decided : Once 2 bases-push-seq·kinds.ps bases-push-seq·kinds.r bases-push-seq.Post
-bases-push-seq-decided κs a x y v w p q =
-    let says = says-once pushed-told x y (p .0 ∙ sym (q .0)) in
-    let bytes = p .1 ∙ sym (q .1) in
-    λ i. (says i, (bytes i, skip 4 tt))
+bases-push-seq-decided κs a x y v w p q = λ i. let e = leaves-once pushed-told x y p q i in (e .0, (e .1, skip 4 tt))
 
 pub bases-overwrite-decided : Once 2 bases-overwrite·kinds.ps bases-overwrite·kinds.r bases-overwrite.Post
-bases-overwrite-decided κs a x y v w p q =
-    let says = says-once kept-told x y (p .0 ∙ sym (q .0)) in
-    let bytes = p .1 ∙ sym (q .1) in
-    λ i. (says i, (bytes i, skip 3 tt))
+bases-overwrite-decided κs a x y v w p q = λ i. let e = leaves-once kept-told x y p q i in (e .0, (e .1, skip 3 tt))
 
 pub bases-cut-decided : Once 1 bases-cut·kinds.ps bases-cut·kinds.r bases-cut.Post
-bases-cut-decided κs a x y v w p q =
-    let says = says-once kept-told x y (p .0 ∙ sym (q .0)) in
-    let bytes = p .1 ∙ sym (q .1) in
-    λ i. (says i, (bytes i, skip 2 tt))
+bases-cut-decided κs a x y v w p q = λ i. let e = leaves-once kept-told x y p q i in (e .0, (e .1, skip 2 tt))
 
 pub flags-clear-decided : Once 1 flags-clear·kinds.ps flags-clear·kinds.r flags-clear.Post
-flags-clear-decided κs a x y v w p q =
-    let says = says-once kept-told x y (p .0 ∙ sym (q .0)) in
-    let bytes = p .1 ∙ sym (q .1) in
-    λ i. (says i, (bytes i, tt))
+flags-clear-decided κs a x y v w p q = λ i. let e = leaves-once kept-told x y p q i in (e .0, (e .1, tt))
 
 pub flags-push-ascii-decided : Once 2 flags-push-ascii·kinds.ps flags-push-ascii·kinds.r flags-push-ascii.Post
-flags-push-ascii-decided κs a x y v w p q =
-    let says = says-once pushed-told x y (p .0 ∙ sym (q .0)) in
-    let bytes = p .1 ∙ sym (q .1) in
-    λ i. (says i, (bytes i, skip 2 tt))
+flags-push-ascii-decided κs a x y v w p q = λ i. let e = leaves-once pushed-told x y p q i in (e .0, (e .1, skip 2 tt))
 
 pub flags-push-seq-decided : Once 2 flags-push-seq·kinds.ps flags-push-seq·kinds.r flags-push-seq.Post
-flags-push-seq-decided κs a x y v w p q =
-    let says = says-once pushed-told x y (p .0 ∙ sym (q .0)) in
-    let bytes = p .1 ∙ sym (q .1) in
-    λ i. (says i, (bytes i, skip 4 tt))
+flags-push-seq-decided κs a x y v w p q = λ i. let e = leaves-once pushed-told x y p q i in (e .0, (e .1, skip 4 tt))
 
 pub flags-overwrite-decided : Once 2 flags-overwrite·kinds.ps flags-overwrite·kinds.r flags-overwrite.Post
-flags-overwrite-decided κs a x y v w p q =
-    let says = says-once kept-told x y (p .0 ∙ sym (q .0)) in
-    let bytes = p .1 ∙ sym (q .1) in
-    λ i. (says i, (bytes i, skip 3 tt))
+flags-overwrite-decided κs a x y v w p q = λ i. let e = leaves-once kept-told x y p q i in (e .0, (e .1, skip 3 tt))
 
 pub flags-cut-decided : Once 1 flags-cut·kinds.ps flags-cut·kinds.r flags-cut.Post
-flags-cut-decided κs a x y v w p q =
-    let says = says-once kept-told x y (p .0 ∙ sym (q .0)) in
-    let bytes = p .1 ∙ sym (q .1) in
-    λ i. (says i, (bytes i, skip 2 tt))
+flags-cut-decided κs a x y v w p q = λ i. let e = leaves-once kept-told x y p q i in (e .0, (e .1, skip 2 tt))

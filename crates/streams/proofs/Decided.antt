@@ -5,7 +5,7 @@ use mathlib.Core.Path.{_≡_, sym, _∙_}
 use Prim.Native.Nat.{ℕ}
 use Rattle.codes.specs.declared.refusals.Outcome.{Outcome}
 use Rattle.codes.proofs.Permitted.{Decided, Once, skip}
-use Rattle.codes.proofs.RefusalLaws.{says-once}
+use Rattle.codes.proofs.RefusalLaws.{says-once, leaves-once}
 use Rattle.streams.specs.declared.answers.Stepped.{Stepped}
 use Rattle.streams.specs.declared.answers.SteppedOnce.{SteppedOnce}
 use Rattle.streams.specs.declared.answers.SteppedTwice.{SteppedTwice}
@@ -54,10 +54,7 @@ stepped-delayed-2-once x y p q =
     λ i. record { lanes = (p .1 .0 ∙ sym (q .1 .0)) i; first = (p .1 .1 .0 ∙ sym (q .1 .1 .0)) i; second = (p .1 .1 .1 ∙ sym (q .1 .1 .1)) i; outcome = (p .0 ∙ sym (q .0)) i }
 
 pub bases-fill-decided : Once 2 bases-fill·kinds.ps bases-fill·kinds.r bases-fill.Post
-bases-fill-decided κs a x y v w p q =
-    let says = says-once filled-told x y (p .0 ∙ sym (q .0)) in
-    let out = p .1 ∙ sym (q .1) in
-    λ i. (says i, skip 5 (out i, tt))
+bases-fill-decided κs a x y v w p q = λ i. let e = leaves-once filled-told x y p q i in (e .0, skip 5 (e .1, tt))
 
 pub bases-fill-delayed-decided : Once 3 bases-fill-delayed·kinds.ps bases-fill-delayed·kinds.r bases-fill-delayed.Post
 bases-fill-delayed-decided κs a x y v w p q =
@@ -87,10 +84,7 @@ pub bases-step-delayed-2-decided : Decided 1 bases-step-delayed-2·kinds.ps base
 bases-step-delayed-2-decided κs a x y s t p q = stepped-delayed-2-once x y p q
 
 pub flags-fill-decided : Once 2 flags-fill·kinds.ps flags-fill·kinds.r flags-fill.Post
-flags-fill-decided κs a x y v w p q =
-    let says = says-once filled-told x y (p .0 ∙ sym (q .0)) in
-    let out = p .1 ∙ sym (q .1) in
-    λ i. (says i, skip 5 (out i, tt))
+flags-fill-decided κs a x y v w p q = λ i. let e = leaves-once filled-told x y p q i in (e .0, skip 5 (e .1, tt))
 
 pub flags-fill-delayed-decided : Once 3 flags-fill-delayed·kinds.ps flags-fill-delayed·kinds.r flags-fill-delayed.Post
 flags-fill-delayed-decided κs a x y v w p q =
