@@ -1,7 +1,7 @@
 -- What a step takes and writes stays within bounds, and so do the buffers.
 -- Assumes nothing.
 use mathlib.Core.Bool.{Bool, true, false}
-use mathlib.Core.List.{List, [], _∷_, _++_}
+use mathlib.Core.List.{List, [], _∷_}
 use mathlib.Core.Path.{_≡_, refl, ap, _∙_}
 use Prim.Native.Nat.{ℕ, _+_, _≤_, _<_}
 use native.Mathlib.Omega.{arith}
@@ -9,9 +9,9 @@ use borrow.Author.Tests.{ltb-true, ltb-false, lt-ltb, le-ltb}
 use lib.Dec.{eqb}
 use lib.ListN.{length, take, getD, length-append}
 use Rattle.codes.specs.Codes.{pick}
-use Rattle.fasta.specs.Report.{refusedText, isHeader, totalOf}
+use Rattle.fasta.specs.Report.{isHeader, totalOf}
 use Rattle.fasta.specs.Records.{opened, ordinal, ambiguousIn, strandIn, rowFrom, closed}
-use Rattle.fasta.specs.Steps.{Move, move, stepped, tooShort, seen, lineEnd, endsLine, lineUsed, begun, inHeader, inLine, atLine, next, ending, lastLines}
+use Rattle.fasta.specs.Steps.{Move, move, stepped, tooShort, seen, lineEnd, endsLine, lineUsed, refusing, begun, inHeader, inLine, atLine, next, ending, lastLines}
 use Rattle.fasta.specs.Buffers.{lineTrack, trackAfter, otherAfter}
 use Rattle.fasta.specs.declared.reader.Record.{Record}
 use Rattle.fasta.specs.declared.reader.Reader.{Reader}
@@ -53,7 +53,7 @@ module _ (part : List ℕ) where
   begun-bounded h =
       cases (eqb (getD part 0 0) 10) (eqb (getD part 0 0) 62)
     where
-      cases : (t u : Bool) → Bounded part (pick t (move Reader.Start 1 []) (pick u (move (Reader.Header 0) 1 []) (move Reader.Ended 1 (refusedText ++ (10 ∷ [])))))
+      cases : (t u : Bool) → Bounded part (pick t (move Reader.Start 1 []) (pick u (move (Reader.Header 0) 1 []) refusing))
       cases true u = record { some = λ _. omega arith; used = h; wrote = omega arith }
       cases false true = record { some = λ _. omega arith; used = h; wrote = omega arith }
       cases false false = record { some = λ _. omega arith; used = h; wrote = omega arith }

@@ -7,7 +7,7 @@ use native.Mathlib.Omega.{arith}
 use lib.ListN.{length, getD}
 use Rattle.fasta.specs.Report.{row, refusedText}
 use Rattle.fasta.proofs.Rest.{State, start, header, fresh, within, ended, rest, Leads}
-use Rattle.fasta.proofs.RestLaws.{Plain, start-blank, start-header, start-letter, header-run, header-end, within-run, within-end, fresh-header, fresh-letters}
+use Rattle.fasta.proofs.RestLaws.{Without, start-blank, start-header, start-letter, header-run, header-end, within-run, within-end, fresh-header, fresh-letters}
 
 pub leads-none : (s : State) → Leads s [] [] s
 leads-none s = record { says = λ more. refl; counts = omega arith }
@@ -28,14 +28,14 @@ leads-ended xs = record { says = λ more. refl; counts = omega arith }
 pub leads-next : (i : ℕ) (ls : List ℕ) → Leads (fresh i ls) (62 ∷ []) (row (suc i) ls) (header (suc i))
 leads-next i ls = record { says = fresh-header i ls; counts = omega arith }
 
-module _ (i : ℕ) (xs : List ℕ) (p : Plain xs) where
+module _ (i : ℕ) (xs : List ℕ) (p : Without 10 xs) where
   pub leads-header : Leads (header i) xs [] (header i)
   leads-header = record { says = λ more. header-run i xs more p; counts = omega arith }
 
   pub leads-header-end : Leads (header i) (xs ++ (10 ∷ [])) [] (fresh i [])
   leads-header-end =
       record {
-        says = λ more. ap (rest (header i)) (append-assoc xs (10 ∷ []) more) ∙ header-run i xs (10 ∷ more) p ∙ header-end i more;
+        says = λ more. ap (rest (header i)) (append-assoc xs (10 ∷ []) more) ∙ header-end i xs more p;
         counts = omega arith;
       }
 
@@ -45,7 +45,7 @@ module _ (i : ℕ) (xs : List ℕ) (p : Plain xs) where
   pub leads-within-end : (ls : List ℕ) → Leads (within i ls) (xs ++ (10 ∷ [])) [] (fresh i (ls ++ xs))
   leads-within-end ls =
       record {
-        says = λ more. ap (rest (within i ls)) (append-assoc xs (10 ∷ []) more) ∙ within-run i ls xs (10 ∷ more) p ∙ within-end i (ls ++ xs) more;
+        says = λ more. ap (rest (within i ls)) (append-assoc xs (10 ∷ []) more) ∙ within-end i ls xs more p;
         counts = omega arith;
       }
 

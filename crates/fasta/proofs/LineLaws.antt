@@ -13,7 +13,7 @@ use lib.Seq.{getD-take, take-suc, length-take-le}
 use Rattle.codes.specs.Codes.{pick}
 use Rattle.fasta.specs.Report.{isHeader}
 use Rattle.fasta.specs.Steps.{lineEnd, endsLine}
-use Rattle.fasta.proofs.RestLaws.{Plain}
+use Rattle.fasta.proofs.RestLaws.{Without}
 
 -- r is the number of bytes before the first LF
 pub record LineEnd (bs : List ℕ) (r : ℕ) : Type 0 where
@@ -50,7 +50,7 @@ line-end (b ∷ bs) = one-more b bs (eqb b 10) refl (line-end bs)
 
 -- the bytes before an end of line, and with it
 module _ (part : List ℕ) where
-  pub line-plain : Plain (take (lineEnd part) part)
+  pub line-plain : Without 10 (take (lineEnd part) part)
   line-plain k l e =
       let m : k < lineEnd part = omega (arith, length-take (lineEnd part) part) in
       line-end part .before k m (sym (getD-take (lineEnd part) part k 0 m) ∙ e)
@@ -63,8 +63,8 @@ module _ (part : List ℕ) (r : ℕ) (e : r ≡ lineEnd part) where
   pub line-open : r ≡ length part → endsLine part ≡ false
   line-open q = le-ltb (lineEnd part) (length part) (omega arith)
 
-  pub line-ends : (r ≡ length part → ⊥) → endsLine part ≡ true
-  line-ends q = lt-ltb (lineEnd part) (length part) (omega (arith, line-end part .inside))
+  pub line-closed : (r ≡ length part → ⊥) → endsLine part ≡ true
+  line-closed q = lt-ltb (lineEnd part) (length part) (omega (arith, line-end part .inside))
 
   pub line-length : length (take r part) ≡ lineEnd part
   line-length = length-take-le r part (omega (arith, line-end part .inside)) ∙ e

@@ -2,7 +2,7 @@
 -- Assumes nothing.
 use mathlib.Core.Bool.{Bool, true, false}
 use mathlib.Core.List.{List, [], _∷_, _++_, append-nil, append-assoc}
-use mathlib.Core.Path.{_≡_, refl, sym, ap, _∙_}
+use mathlib.Core.Path.{_≡_, refl, sym, ap, ap₂, _∙_}
 use Prim.Native.Nat.{ℕ, suc, _<_}
 use native.Mathlib.Omega.{arith}
 use borrow.Author.Tests.{ne-eqb, eqb-true, eqb-false}
@@ -11,9 +11,9 @@ use lib.ListN.{length, getD}
 use Rattle.fasta.specs.Report.{longer, lines, isHeader, records, rows, row, table, refusedText}
 use Rattle.fasta.proofs.Rest.{start, header, fresh, within, ended, firstLine, laterLines, rest}
 
--- no byte is LF
-abbrev pub Plain : List ℕ → Type 0
-Plain bs = (k : ℕ) → k < length bs → getD bs k 0 ≡ 10 → ⊥
+-- no byte of bs is b
+abbrev pub Without : ℕ → List ℕ → Type 0
+Without b bs = (k : ℕ) → k < length bs → getD bs k 0 ≡ b → ⊥
 
 longer-is : (b : ℕ) (ls : List (List ℕ)) → longer b ls ≡ (b ∷ firstLine ls) ∷ laterLines ls
 longer-is b [] = refl
@@ -26,6 +26,14 @@ lines-plain b bs h = rw (ne-eqb b 10 h) (longer-is b (lines bs))
 lines-end : (bs : List ℕ) → lines (10 ∷ bs) ≡ [] ∷ lines bs
 unfolding lines
 lines-end bs = refl
+
+-- a run of bytes within a line
+lines-run : (xs bs : List ℕ) → Without 10 xs → (firstLine (lines (xs ++ bs)) ≡ xs ++ firstLine (lines bs)) × (laterLines (lines (xs ++ bs)) ≡ laterLines (lines bs))
+lines-run [] bs p = (refl, refl)
+lines-run (x ∷ xs) bs p =
+    let e = lines-plain x (xs ++ bs) (p 0 (omega arith)) in
+    let r = lines-run xs bs (λ k l. p (suc k) (omega arith)) in
+    (ap firstLine e ∙ ap (λ (l : List ℕ). x ∷ l) (r .0), ap laterLines e ∙ r .1)
 
 -- before any header
 pub start-blank : (bs : List ℕ) → rest start (10 ∷ bs) ≡ rest start bs
@@ -41,35 +49,25 @@ unfolding rest
 start-letter b bs h l = ap table (lines-plain b bs h) ∙ rw (ne-eqb b 62 l)
 
 -- in a header line
-pub header-end : (i : ℕ) (bs : List ℕ) → rest (header i) (10 ∷ bs) ≡ rest (fresh i []) bs
+pub header-run : (i : ℕ) (xs bs : List ℕ) → Without 10 xs → rest (header i) (xs ++ bs) ≡ rest (header i) bs
 unfolding rest
-header-end i bs = refl
+header-run i xs bs p = ap (λ (L : List (List ℕ)). rows i (records [] L)) (lines-run xs bs p .1)
 
-header-byte : (i b : ℕ) (bs : List ℕ) → (b ≡ 10 → ⊥) → rest (header i) (b ∷ bs) ≡ rest (header i) bs
+pub header-end : (i : ℕ) (xs bs : List ℕ) → Without 10 xs → rest (header i) (xs ++ (10 ∷ bs)) ≡ rest (fresh i []) bs
 unfolding rest
-header-byte i b bs h = ap (λ (L : List (List ℕ)). rows i (records [] (laterLines L))) (lines-plain b bs h)
-
-pub header-run : (i : ℕ) (xs bs : List ℕ) → Plain xs → rest (header i) (xs ++ bs) ≡ rest (header i) bs
-header-run i [] bs p = refl
-header-run i (x ∷ xs) bs p = header-byte i x (xs ++ bs) (p 0 (omega arith)) ∙ header-run i xs bs (λ k l. p (suc k) (omega arith))
+header-end i xs bs p = header-run i xs (10 ∷ bs) p
 
 -- in a record, within a line
-pub within-end : (i : ℕ) (ls bs : List ℕ) → rest (within i ls) (10 ∷ bs) ≡ rest (fresh i ls) bs
+pub within-run : (i : ℕ) (ls xs bs : List ℕ) → Without 10 xs → rest (within i ls) (xs ++ bs) ≡ rest (within i (ls ++ xs)) bs
 unfolding rest
-within-end i ls bs = ap (λ (x : List ℕ). rows i (records x (lines bs))) (append-nil ls)
+within-run i ls xs bs p =
+    let r = lines-run xs bs p in
+    ap₂ (λ (l : List ℕ) (L : List (List ℕ)). rows i (records (ls ++ l) L)) (r .0) (r .1)
+    ∙ ap (λ (l : List ℕ). rows i (records l (laterLines (lines bs)))) (sym (append-assoc ls xs (firstLine (lines bs))))
 
-within-byte : (i b : ℕ) (ls bs : List ℕ) → (b ≡ 10 → ⊥) → rest (within i ls) (b ∷ bs) ≡ rest (within i (ls ++ (b ∷ []))) bs
+pub within-end : (i : ℕ) (ls xs bs : List ℕ) → Without 10 xs → rest (within i ls) (xs ++ (10 ∷ bs)) ≡ rest (fresh i (ls ++ xs)) bs
 unfolding rest
-within-byte i b ls bs h =
-    ap (λ (L : List (List ℕ)). rows i (records (ls ++ firstLine L) (laterLines L))) (lines-plain b bs h)
-    ∙ ap (λ (x : List ℕ). rows i (records x (laterLines (lines bs)))) (sym (append-assoc ls (b ∷ []) (firstLine (lines bs))))
-
-pub within-run : (i : ℕ) (ls xs bs : List ℕ) → Plain xs → rest (within i ls) (xs ++ bs) ≡ rest (within i (ls ++ xs)) bs
-within-run i ls [] bs p = ap (λ (x : List ℕ). rest (within i x) bs) (sym (append-nil ls))
-within-run i ls (x ∷ xs) bs p =
-    within-byte i x ls (xs ++ bs) (p 0 (omega arith))
-    ∙ within-run i (ls ++ (x ∷ [])) xs bs (λ k l. p (suc k) (omega arith))
-    ∙ ap (λ (y : List ℕ). rest (within i y) bs) (append-assoc ls (x ∷ []) xs)
+within-end i ls xs bs p = within-run i ls xs (10 ∷ bs) p ∙ ap (λ (l : List ℕ). rows i (records l (lines bs))) (append-nil (ls ++ xs))
 
 -- and at the start of one
 pub fresh-header : (i : ℕ) (ls bs : List ℕ) → rest (fresh i ls) (62 ∷ bs) ≡ row (suc i) ls ++ rest (header (suc i)) bs

@@ -13,9 +13,9 @@ use Rattle.codes.specs.Codes.{pick, chars}
 use Rattle.codes.proofs.WidthLaws.{below-or}
 use Rattle.stores.specs.Stores.{pushAscii, after}
 use Rattle.rows.specs.Columns.{decimal, setFlags, strandOf, columns}
-use Rattle.fasta.specs.Report.{ambiguous, strand, row, refusedText, isHeader, body, rowOf}
+use Rattle.fasta.specs.Report.{ambiguous, strand, row, isHeader, body, rowOf}
 use Rattle.fasta.specs.Records.{opened, lengthened, ordinal, ambiguousIn, strandIn, rowFrom}
-use Rattle.fasta.specs.Steps.{Move, move, lineEnd, endsLine, lineUsed, begun, inHeader, inLine, atLine, next}
+use Rattle.fasta.specs.Steps.{Move, move, lineEnd, endsLine, lineUsed, refusing, begun, inHeader, inLine, atLine, next}
 use Rattle.fasta.specs.Buffers.{lineTrack, trackAfter}
 use Rattle.fasta.specs.declared.reader.Record.{Record}
 use Rattle.fasta.specs.declared.reader.Reader.{Reader}
@@ -70,12 +70,12 @@ module _ (part bases flags : List ℕ) where
         cases (eqb (getD part 0 0) 10) refl (eqb (getD part 0 0) 62) refl
       where
         cases : (t : Bool) → eqb (getD part 0 0) 10 ≡ t → (u : Bool) → eqb (getD part 0 0) 62 ≡ u
-            → (let m : Move = pick t (move Reader.Start 1 []) (pick u (move (Reader.Header 0) 1 []) (move Reader.Ended 1 (refusedText ++ (10 ∷ [])))) in
+            → (let m : Move = pick t (move Reader.Start 1 []) (pick u (move (Reader.Header 0) 1 []) refusing) in
             Onward Reader.Start bases flags (take (m .used) part) m bases flags)
         cases true e u f = goes part bases flags start (move Reader.Start 1 []) (10 ∷ []) (one 10 (eqb-true _ 10 e)) (λ l. (start, refl, leads-blank))
         cases false e true f = goes part bases flags start (move (Reader.Header 0) 1 []) (62 ∷ []) (one 62 (eqb-true _ 62 f)) (λ l. (header 0, refl, leads-open))
         cases false e false f =
-            goes part bases flags start (move Reader.Ended 1 (refusedText ++ (10 ∷ []))) (getD part 0 0 ∷ []) (one (getD part 0 0) refl)
+            goes part bases flags start refusing (getD part 0 0 ∷ []) (one (getD part 0 0) refl)
             (λ l. (ended, refl, leads-refused (getD part 0 0) (eqb-false _ 10 e) (eqb-false _ 62 f)))
 
   -- after the report

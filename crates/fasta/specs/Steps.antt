@@ -47,11 +47,13 @@ endsLine part = ltb (lineEnd part) (length part)
 abbrev pub lineUsed : List ℕ → ℕ
 lineUsed part = pick (endsLine part) (lineEnd part + 1) (lineEnd part)
 
+-- a letter before any header
+abbrev pub refusing : Move
+refusing = move Reader.Ended 1 (refusedText ++ (10 ∷ []))
+
 -- before any header: a blank line is passed over, a `>` opens the first record, any other byte is refused
 unfoldable pub begun : List ℕ → Move
-begun part =
-    pick (eqb (getD part 0 0) 10) (move Reader.Start 1 [])
-    (pick (eqb (getD part 0 0) 62) (move (Reader.Header 0) 1 []) (move Reader.Ended 1 (refusedText ++ (10 ∷ []))))
+begun part = pick (eqb (getD part 0 0) 10) (move Reader.Start 1 []) (pick (eqb (getD part 0 0) 62) (move (Reader.Header 0) 1 []) refusing)
 
 -- in a header line: the rest of it is passed over
 unfoldable pub inHeader : ℕ → List ℕ → Move

@@ -14,7 +14,7 @@ ghost use mathlib.Core.Path.{_≡_};
 ghost use Prim.Native.Nat.{_≤_, _<_};
 ghost use lib.ListN.{length};
 ghost use Rattle.fasta.specs.Records.{closed, marked};
-ghost use Rattle.fasta.specs.Steps.{stepped, begun, inHeader, inLine, atLine};
+ghost use Rattle.fasta.specs.Steps.{stepped, refusing, begun, inHeader, inLine, atLine};
 ghost use Rattle.fasta.specs.Buffers.{onto, lineTrack, trackAfter, otherAfter};
 
 // Before any header.
@@ -39,6 +39,15 @@ pub(crate) fn begin(part: &[u8], out: &mut [u8]) -> Stepped
             wrote: 0,
         };
     }
+    refuse(out)
+}
+
+// A letter before any header: the report is over.
+fn refuse(out: &mut [u8]) -> Stepped
+    requires { ⌜ 96 ≤ length (now out) ⌝ }
+    ensures says { λ r. ⌜ r ≡ stepped refusing ⌝ }
+    ensures out { λ _. ⌜ now (out .exit) ≡ onto (refusing .written) (now (out .entry)) ⌝ }
+{
     let wrote = put_text(b"refused\n", out, 0);
     Stepped {
         reader: Reader::Ended,

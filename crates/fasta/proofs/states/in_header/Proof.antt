@@ -5,7 +5,7 @@ use native.Mathlib.Omega.{arith}
 use Rattle.fasta.specs.Records.{opened}
 use Rattle.fasta.specs.Steps.{inHeader}
 use Rattle.fasta.specs.declared.reader.Reader.the-variants as Reader
-use Rattle.fasta.proofs.LineLaws.{line-end, line-open, line-ends}
+use Rattle.fasta.proofs.LineLaws.{line-end, line-open, line-closed}
 use borrow.Author.Needs.{needs}
 use Rattle.fasta.proofs.states.in_header.Statement.{statement}
 use Rattle.fasta.proofs.states.in_header.Tie as tie
@@ -28,7 +28,7 @@ unfolding inHeader
 returns-2 c =
     let a = c .before .before .before .args in
     let e = c .before .line-end .ensures in
-    rw (line-ends (a .part .now) (c .before .line-end .result) e (c .if1 .left)) (ap (λ (n : ℕ). record { reader = Reader.Fresh (opened (a .number)); used = n + 1; wrote = 0 }) e)
+    rw (line-closed (a .part .now) (c .before .line-end .result) e (c .if1 .left)) (ap (λ (n : ℕ). record { reader = Reader.Fresh (opened (a .number)); used = n + 1; wrote = 0 }) e)
 
 pub in-header-spec : {M : Type 1} → statement M
 in-header-spec = tie.close (tie.spec line-end-requires returns add-t4 returns-2)

@@ -11,7 +11,7 @@ use Rattle.fasta.specs.Buffers.{lineTrack}
 use Rattle.fasta.specs.declared.reader.Record.{Record}
 use Rattle.fasta.specs.declared.reader.Reader.the-variants as Reader
 use Rattle.fasta.specs.declared.reader.Stepped.{Stepped}
-use Rattle.fasta.proofs.LineLaws.{line-end, line-open, line-ends, line-length}
+use Rattle.fasta.proofs.LineLaws.{line-end, line-open, line-closed, line-length}
 use borrow.Author.Needs.{needs}
 use Rattle.fasta.proofs.states.in_line.Statement.{statement}
 use Rattle.fasta.proofs.states.in_line.Tie as tie
@@ -65,7 +65,7 @@ unfolding inLine
 returns-2 c =
     let l = c .before in
     let e = ap₂ {C = Stepped} (λ (k : Record) (n : ℕ). record { reader = Reader.Fresh k; used = n + 1; wrote = 0 }) (longer l) (end l) in
-    (rw (line-ends (start l .args .part .now) _ (end l) (c .if1 .left)) e, tracks l)
+    (rw (line-closed (start l .args .part .now) _ (end l) (c .if1 .left)) e, tracks l)
 
 pub in-line-spec : {M : Type 1} → statement M
 in-line-spec =
