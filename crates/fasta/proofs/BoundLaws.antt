@@ -7,12 +7,13 @@ use Prim.Native.Nat.{ℕ, _+_, _≤_, _<_}
 use native.Mathlib.Omega.{arith}
 use borrow.Author.Tests.{ltb-true, ltb-false, lt-ltb, le-ltb}
 use lib.Dec.{eqb}
-use lib.ListN.{length, take, getD, length-append}
+use lib.ListN.{length, getD, length-append}
 use Rattle.codes.specs.Codes.{pick}
-use Rattle.fasta.specs.Report.{isHeader, totalOf}
-use Rattle.fasta.specs.Records.{opened, ordinal, ambiguousIn, strandIn, rowFrom, closed}
-use Rattle.fasta.specs.Steps.{Move, move, stepped, tooShort, seen, lineEnd, endsLine, lineUsed, refusing, begun, inHeader, inLine, atLine, next, ending, lastLines}
-use Rattle.fasta.specs.Buffers.{lineTrack, trackAfter, otherAfter}
+use Rattle.stores.specs.Stores.{pushAscii, after}
+use Rattle.fasta.specs.Report.{content, isHeader, totalOf}
+use Rattle.fasta.specs.Records.{opened, lengthened, ordinal, ambiguousIn, strandIn, rowFrom, closed}
+use Rattle.fasta.specs.Steps.{Move, move, stepped, tooShort, seen, lineEnd, endsLine, lineLetters, goesOn, lineUsed, refusing, begun, begunHeld, inHeader, inLine, inLineHeld, atLine, next, ending, lastLines}
+use Rattle.fasta.specs.Buffers.{lineTrack, heldTrack, trackAfter, otherAfter}
 use Rattle.fasta.specs.declared.reader.Record.{Record}
 use Rattle.fasta.specs.declared.reader.Reader.{Reader}
 use Rattle.fasta.specs.declared.reader.Reader.the-variants as Reader
@@ -51,12 +52,22 @@ module _ (part : List ℕ) where
   begun-bounded : 0 < length part → Bounded part (begun part)
   unfolding begun
   begun-bounded h =
-      cases (eqb (getD part 0 0) 10) (eqb (getD part 0 0) 62)
+      cases (eqb (getD part 0 0) 10) (eqb (getD part 0 0) 13) (eqb (getD part 0 0) 62)
     where
-      cases : (t u : Bool) → Bounded part (pick t (move Reader.Start 1 []) (pick u (move (Reader.Header 0) 1 []) refusing))
-      cases true u = record { some = λ _. omega arith; used = h; wrote = omega arith }
-      cases false true = record { some = λ _. omega arith; used = h; wrote = omega arith }
-      cases false false = record { some = λ _. omega arith; used = h; wrote = omega arith }
+      cases : (t u v : Bool) → Bounded part (pick t (move Reader.Start 1 []) (pick u (move Reader.StartHeld 1 []) (pick v (move (Reader.Header 0) 1 []) refusing)))
+      cases true u v = record { some = λ _. omega arith; used = h; wrote = omega arith }
+      cases false true v = record { some = λ _. omega arith; used = h; wrote = omega arith }
+      cases false false true = record { some = λ _. omega arith; used = h; wrote = omega arith }
+      cases false false false = record { some = λ _. omega arith; used = h; wrote = omega arith }
+
+  begun-held-bounded : 0 < length part → Bounded part (begunHeld part)
+  unfolding begunHeld
+  begun-held-bounded h =
+      cases (goesOn part)
+    where
+      cases : (t : Bool) → Bounded part (pick t refusing (move Reader.Start 1 []))
+      cases true = record { some = λ _. omega arith; used = h; wrote = omega arith }
+      cases false = record { some = λ _. omega arith; used = h; wrote = omega arith }
 
   header-bounded : (i : ℕ) → Bounded part (inHeader i part)
   unfolding inHeader
@@ -65,6 +76,15 @@ module _ (part : List ℕ) where
   pub line-bounded : (k : Record) → Bounded part (inLine k part)
   unfolding inLine
   line-bounded k = record { some = line-some; used = line-inside; wrote = omega arith }
+
+  line-held-bounded : 0 < length part → (k : Record) → Bounded part (inLineHeld k part)
+  unfolding inLineHeld
+  line-held-bounded h k =
+      cases (goesOn part)
+    where
+      cases : (t : Bool) → Bounded part (pick t (inLine (lengthened k 1) part) (move (Reader.Fresh k) 1 []))
+      cases true = line-bounded (lengthened k 1)
+      cases false = record { some = λ _. omega arith; used = h; wrote = omega arith }
 
   fresh-bounded : 0 < length part → (k : Record) (bases flags : List ℕ) → Bounded part (atLine k part bases flags)
   unfolding atLine
@@ -79,9 +99,11 @@ pub next-bounded : (reader : Reader) (part bases flags : List ℕ) → Bounded p
 unfolding next
 next-bounded reader [] bases flags = record { some = λ h. absurd (omega arith); used = omega arith; wrote = omega arith }
 next-bounded Reader.Start (b ∷ bs) bases flags = begun-bounded (b ∷ bs) (omega arith)
+next-bounded Reader.StartHeld (b ∷ bs) bases flags = begun-held-bounded (b ∷ bs) (omega arith)
 next-bounded (Reader.Header i) (b ∷ bs) bases flags = header-bounded (b ∷ bs) i
 next-bounded (Reader.Fresh k) (b ∷ bs) bases flags = fresh-bounded (b ∷ bs) (omega arith) k bases flags
 next-bounded (Reader.Within k) (b ∷ bs) bases flags = line-bounded (b ∷ bs) k
+next-bounded (Reader.WithinHeld k) (b ∷ bs) bases flags = line-held-bounded (b ∷ bs) (omega arith) k
 next-bounded Reader.Ended (b ∷ bs) bases flags = record { some = λ h. omega arith; used = omega arith; wrote = omega arith }
 
 -- a step looks at all of a part where there is room, and else at nothing
@@ -102,29 +124,44 @@ seen-none part out h = rw (lt-ltb (length out) 96 h)
 
 -- nothing to look at: the buffers stay
 pub track-none : (w : ℕ) (reader : Reader) (bytes : List ℕ) → trackAfter w reader [] bytes ≡ bytes
-unfolding trackAfter lineEnd
+unfolding trackAfter lineTrack heldTrack lineEnd content
 track-none w Reader.Start bytes = refl
+track-none w Reader.StartHeld bytes = refl
 track-none w (Reader.Header i) bytes = refl
 track-none w (Reader.Fresh k) bytes = push-nothing w bytes (k .count)
 track-none w (Reader.Within k) bytes = push-nothing w bytes (k .count)
+track-none w (Reader.WithinHeld k) bytes = refl
 track-none w Reader.Ended bytes = refl
 
 pub other-none : (reader : Reader) (bases other : List ℕ) → otherAfter reader [] bases other ≡ other
 unfolding otherAfter
 other-none Reader.Start bases other = refl
+other-none Reader.StartHeld bases other = refl
 other-none (Reader.Header i) bases other = refl
 other-none (Reader.Fresh k) bases other = refl
 other-none (Reader.Within k) bases other = refl
+other-none (Reader.WithinHeld k) bases other = refl
 other-none Reader.Ended bases other = refl
 
 -- the tracks keep their size
 line-track-length : (w : ℕ) (k : Record) (part bytes : List ℕ) → length (lineTrack w k part bytes) ≡ length bytes
 unfolding lineTrack
-line-track-length w k part bytes = push-length w bytes (k .count) (take (lineEnd part) part)
+line-track-length w k part bytes = push-length w bytes (k .count) (lineLetters part)
+
+held-track-length : (w : ℕ) (k : Record) (part bytes : List ℕ) → length (heldTrack w k part bytes) ≡ length bytes
+unfolding heldTrack
+held-track-length w k part bytes =
+    let returned : List ℕ = after w bytes (k .count) (pushAscii (13 ∷ [])) in
+    cases returned (push-length w bytes (k .count) (13 ∷ [])) (goesOn part)
+  where
+    cases : (bytes′ : List ℕ) → length bytes′ ≡ length bytes → (t : Bool) → length (pick t (lineTrack w (lengthened k 1) part bytes′) bytes) ≡ length bytes
+    cases bytes′ e true = line-track-length w (lengthened k 1) part bytes′ ∙ e
+    cases bytes′ e false = refl
 
 pub track-length : (w : ℕ) (reader : Reader) (part bytes : List ℕ) → length (trackAfter w reader part bytes) ≡ length bytes
 unfolding trackAfter
 track-length w Reader.Start part bytes = refl
+track-length w Reader.StartHeld part bytes = refl
 track-length w (Reader.Header i) part bytes = refl
 track-length w (Reader.Fresh k) part bytes =
     cases (isHeader part)
@@ -133,6 +170,7 @@ track-length w (Reader.Fresh k) part bytes =
     cases true = refl
     cases false = line-track-length w k part bytes
 track-length w (Reader.Within k) part bytes = line-track-length w k part bytes
+track-length w (Reader.WithinHeld k) part bytes = held-track-length w k part bytes
 track-length w Reader.Ended part bytes = refl
 
 -- what the end of the input writes
@@ -142,9 +180,11 @@ closed-length k bases flags = omega (arith, length-append (rowFrom k bases flags
 
 pub ending-length : (reader : Reader) (bases flags : List ℕ) → length (ending reader bases flags) ≤ 92
 ending-length Reader.Start bases flags = omega (arith, total-length 0)
+ending-length Reader.StartHeld bases flags = omega (arith, total-length 0)
 ending-length (Reader.Header i) bases flags = closed-length (opened i) bases flags
 ending-length (Reader.Fresh k) bases flags = closed-length k bases flags
 ending-length (Reader.Within k) bases flags = closed-length k bases flags
+ending-length (Reader.WithinHeld k) bases flags = closed-length k bases flags
 ending-length Reader.Ended bases flags = omega arith
 
 pub last-length : (reader : Reader) (bases flags out : List ℕ) → length (lastLines reader bases flags out) ≤ 92

@@ -1,13 +1,13 @@
 -- From state to state: what each piece of the input leads to, and what the report says of it.
 -- Assumes nothing.
 use mathlib.Core.List.{List, [], _∷_, _++_, append-assoc}
-use mathlib.Core.Path.{_≡_, refl, ap, _∙_}
+use mathlib.Core.Path.{_≡_, refl, sym, ap, _∙_}
 use Prim.Native.Nat.{ℕ, suc, _<_}
 use native.Mathlib.Omega.{arith}
 use lib.ListN.{length, getD}
-use Rattle.fasta.specs.Report.{row, refusedText}
-use Rattle.fasta.proofs.Rest.{State, start, header, fresh, within, ended, rest, Leads}
-use Rattle.fasta.proofs.RestLaws.{Without, start-blank, start-header, start-letter, header-run, header-end, within-run, within-end, fresh-header, fresh-letters}
+use Rattle.fasta.specs.Report.{content, row, refusedText}
+use Rattle.fasta.proofs.Rest.{State, start, startHeld, header, fresh, within, withinHeld, ended, rest, Leads}
+use Rattle.fasta.proofs.RestLaws.{Without, start-blank, start-header, start-letter, start-return, held-blank, held-letter, header-run, header-end, within-run, within-before, within-end, held-end, held-more, fresh-header, fresh-letters}
 
 pub leads-none : (s : State) → Leads s [] [] s
 leads-none s = record { says = λ more. refl; counts = omega arith }
@@ -18,8 +18,17 @@ leads-blank = record { says = start-blank; counts = omega arith }
 pub leads-open : Leads start (62 ∷ []) [] (header 0)
 leads-open = record { says = start-header; counts = omega arith }
 
-pub leads-refused : (b : ℕ) → (b ≡ 10 → ⊥) → (b ≡ 62 → ⊥) → Leads start (b ∷ []) (refusedText ++ (10 ∷ [])) ended
-leads-refused b h l = record { says = λ more. start-letter b more h l; counts = omega arith }
+pub leads-refused : (b : ℕ) → (b ≡ 10 → ⊥) → (b ≡ 13 → ⊥) → (b ≡ 62 → ⊥) → Leads start (b ∷ []) (refusedText ++ (10 ∷ [])) ended
+leads-refused b h r l = record { says = λ more. start-letter b more h r l; counts = omega arith }
+
+pub leads-start-held : Leads start (13 ∷ []) [] startHeld
+leads-start-held = record { says = start-return; counts = omega arith }
+
+pub leads-held-blank : Leads startHeld (10 ∷ []) [] start
+leads-held-blank = record { says = held-blank; counts = omega arith }
+
+pub leads-held-refused : (b : ℕ) → (b ≡ 10 → ⊥) → Leads startHeld (b ∷ []) (refusedText ++ (10 ∷ [])) ended
+leads-held-refused b h = record { says = λ more. held-letter b more h; counts = omega arith }
 
 pub leads-ended : (xs : List ℕ) → Leads ended xs [] ended
 unfolding rest
@@ -39,15 +48,35 @@ module _ (i : ℕ) (xs : List ℕ) (p : Without 10 xs) where
         counts = omega arith;
       }
 
-  pub leads-within : (ls : List ℕ) → Leads (within i ls) xs [] (within i (ls ++ xs))
-  leads-within ls = record { says = λ more. within-run i ls xs more p; counts = omega arith }
-
-  pub leads-within-end : (ls : List ℕ) → Leads (within i ls) (xs ++ (10 ∷ [])) [] (fresh i (ls ++ xs))
-  leads-within-end ls =
+  pub leads-within : (ls : List ℕ) → content xs ≡ xs → Leads (within i ls) xs [] (within i (ls ++ content xs))
+  leads-within ls e =
       record {
-        says = λ more. ap (rest (within i ls)) (append-assoc xs (10 ∷ []) more) ∙ within-end i ls xs more p;
+        says = λ more. within-run i ls xs p more e ∙ ap (λ (l : List ℕ). rest (within i (ls ++ l)) more) (sym e);
         counts = omega arith;
       }
+
+  pub leads-within-held : (ls : List ℕ) → Leads (within i ls) (xs ++ (13 ∷ [])) [] (withinHeld i (ls ++ xs))
+  unfolding rest
+  leads-within-held ls =
+      record {
+        says = λ more. ap (rest (within i ls)) (append-assoc xs (13 ∷ []) more) ∙ within-before i ls xs p 13 more (λ e. omega arith);
+        counts = omega arith;
+      }
+
+  pub leads-within-end : (ls : List ℕ) → Leads (within i ls) (xs ++ (10 ∷ [])) [] (fresh i (ls ++ content xs))
+  leads-within-end ls =
+      record {
+        says = λ more. ap (rest (within i ls)) (append-assoc xs (10 ∷ []) more) ∙ within-end i ls xs p more;
+        counts = omega arith;
+      }
+
+-- after a CR
+pub leads-held-end : (i : ℕ) (ls : List ℕ) → Leads (withinHeld i ls) (10 ∷ []) [] (fresh i ls)
+leads-held-end i ls = record { says = held-end i ls; counts = omega arith }
+
+pub leads-held : (i : ℕ) (ls xs written : List ℕ) (s′ : State) → 0 < length xs → (getD xs 0 0 ≡ 10 → ⊥) → Leads (within i (ls ++ (13 ∷ []))) xs written s′ → Leads (withinHeld i ls) xs written s′
+leads-held i ls [] written s′ h n l = absurd (omega arith)
+leads-held i ls (b ∷ xs) written s′ h n l = record { says = λ more. held-more i ls b (xs ++ more) n ∙ l .says more; counts = l .counts }
 
 -- a line that opens no record
 pub leads-letters : (i : ℕ) (ls xs written : List ℕ) (s′ : State) → 0 < length xs → (getD xs 0 0 ≡ 62 → ⊥) → Leads (within i ls) xs written s′ → Leads (fresh i ls) xs written s′

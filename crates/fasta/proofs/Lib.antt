@@ -1,6 +1,7 @@
 pub mod Listing
 pub mod Rest
 pub mod Meaning
+pub mod ContentLaws
 pub mod RestLaws
 pub mod LineLaws
 pub mod LetterLaws
@@ -17,4 +18,5 @@ pub mod FeedLaws
 pub mod TurnLaws
 pub mod Chunked
 pub mod Collected
+pub mod LineEnds
 pub mod Decided

@@ -34,6 +34,12 @@ enum-told c = search needs
 put-total-requires : tie.Need-put-total-requires
 put-total-requires c κs = search needs
 
+enum-told-2 : tie.Need-enum-told-2
+enum-told-2 c = search needs
+
+put-total-requires-2 : tie.Need-put-total-requires-2
+put-total-requires-2 c κs = search needs
+
 enum-known-reader : tie.Need-enum-known-reader
 enum-known-reader c = search needs
 
@@ -52,8 +58,14 @@ enum-known-reader-3 c = search needs
 close-requires-3 : tie.Need-close-requires-3
 close-requires-3 c κs = search needs
 
-enum-told-2 : tie.Need-enum-told-2
-enum-told-2 c = search needs
+enum-known-reader-4 : tie.Need-enum-known-reader-4
+enum-known-reader-4 c = search needs
+
+close-requires-4 : tie.Need-close-requires-4
+close-requires-4 c κs = search needs
+
+enum-told-3 : tie.Need-enum-told-3
+enum-told-3 c = search needs
 
 same-length : tie.Need-same-length
 same-length c = search needs
@@ -72,8 +84,10 @@ same-length-2 c = search needs
 returns-3 : tie.Need-returns-3
 returns-3 c =
     let k = c .before .before in
-    let r = k .before .before .before .before in
-    state (r .before .before) (Reader.Header _) (r .reader .given .1) _ _ _ (k .close .ensures)
+    let r = k .before .before in
+    let e = r .before .before in
+    let p = k .put-total2 .ensures in
+    state e Reader.StartHeld (r .enum-told2 .given .1) _ _ _ (put-place p, (refl, put-onto p (omega (arith, e .if1 .left, total-length 0))))
 
 same-length-3 : tie.Need-same-length-3
 same-length-3 c = search needs
@@ -82,7 +96,7 @@ returns-4 : tie.Need-returns-4
 returns-4 c =
     let k = c .before .before in
     let r = k .before .before .before .before in
-    state (r .before .before) (Reader.Fresh _) (r .reader2 .given .1) _ _ _ (k .close2 .ensures)
+    state (r .before .before) (Reader.Header _) (r .reader .given .1) _ _ _ (k .close .ensures)
 
 same-length-4 : tie.Need-same-length-4
 same-length-4 c = search needs
@@ -91,10 +105,28 @@ returns-5 : tie.Need-returns-5
 returns-5 c =
     let k = c .before .before in
     let r = k .before .before .before .before in
-    state (r .before .before) (Reader.Within _) (r .reader3 .given .1) _ _ _ (k .close3 .ensures)
+    state (r .before .before) (Reader.Fresh _) (r .reader2 .given .1) _ _ _ (k .close2 .ensures)
+
+same-length-5 : tie.Need-same-length-5
+same-length-5 c = search needs
 
 returns-6 : tie.Need-returns-6
-returns-6 c = state (c .before .before) Reader.Ended (c .enum-told2 .given .1) _ _ _ (refl, (refl, refl))
+returns-6 c =
+    let k = c .before .before in
+    let r = k .before .before .before .before in
+    state (r .before .before) (Reader.Within _) (r .reader3 .given .1) _ _ _ (k .close3 .ensures)
+
+same-length-6 : tie.Need-same-length-6
+same-length-6 c = search needs
+
+returns-7 : tie.Need-returns-7
+returns-7 c =
+    let k = c .before .before in
+    let r = k .before .before .before .before in
+    state (r .before .before) (Reader.WithinHeld _) (r .reader4 .given .1) _ _ _ (k .close4 .ensures)
+
+returns-8 : tie.Need-returns-8
+returns-8 c = state (c .before .before) Reader.Ended (c .enum-told3 .given .1) _ _ _ (refl, (refl, refl))
 
 pub finish-spec : {M : Type 1} → statement M
 finish-spec =
@@ -103,13 +135,17 @@ finish-spec =
     returns
     enum-told
     put-total-requires
+    enum-told-2
+    put-total-requires-2
     enum-known-reader
     close-requires
     enum-known-reader-2
     close-requires-2
     enum-known-reader-3
     close-requires-3
-    enum-told-2
+    enum-known-reader-4
+    close-requires-4
+    enum-told-3
     same-length
     returns-2
     same-length-2
@@ -118,4 +154,8 @@ finish-spec =
     returns-4
     same-length-4
     returns-5
-    returns-6)
+    same-length-5
+    returns-6
+    same-length-6
+    returns-7
+    returns-8)
