@@ -1,4 +1,4 @@
--- What a step takes and writes stays within bounds, and so do the buffers.
+-- What a step takes and writes stays within bounds.
 -- Assumes nothing.
 use mathlib.Core.Bool.{Bool, true, false}
 use mathlib.Core.List.{List, [], _∷_}
@@ -9,16 +9,13 @@ use borrow.Author.Tests.{ltb-true, ltb-false, lt-ltb, le-ltb}
 use lib.Dec.{eqb}
 use lib.ListN.{length, getD, length-append}
 use Rattle.codes.specs.Codes.{pick}
-use Rattle.stores.specs.Stores.{pushAscii, after}
-use Rattle.fasta.specs.Report.{content, isHeader, totalOf}
+use Rattle.fasta.specs.Report.{isHeader, totalOf}
 use Rattle.fasta.specs.Records.{opened, lengthened, ordinal, ambiguousIn, strandIn, rowFrom, closed}
-use Rattle.fasta.specs.Steps.{Move, move, stepped, tooShort, seen, lineEnd, endsLine, lineLetters, goesOn, lineUsed, refusing, begun, begunHeld, inHeader, inLine, inLineHeld, atLine, next, ending, lastLines}
-use Rattle.fasta.specs.Buffers.{lineTrack, heldTrack, trackAfter, otherAfter}
+use Rattle.fasta.specs.Steps.{Move, move, stepped, tooShort, seen, lineEnd, endsLine, goesOn, lineUsed, begun, begunHeld, inHeader, inLine, inLineHeld, atLine, next, ending, lastLines}
 use Rattle.fasta.specs.declared.reader.Record.{Record}
 use Rattle.fasta.specs.declared.reader.Reader.{Reader}
 use Rattle.fasta.specs.declared.reader.Reader.the-variants as Reader
 use Rattle.fasta.specs.declared.reader.Stepped.{Stepped}
-use Rattle.fasta.proofs.HoldLaws.{push-nothing, push-length}
 use Rattle.fasta.proofs.LineLaws.{line-end}
 use Rattle.fasta.proofs.RowLaws.{row-length, total-length}
 
@@ -49,25 +46,24 @@ module _ (part : List ℕ) where
       cases true e = omega (arith, ltb-true (lineEnd part) (length part) e)
       cases false e = omega (arith, line-end part .inside)
 
+  -- a step that takes one byte
+  one : 0 < length part → (reader : Reader) (written : List ℕ) → length written ≤ 65 → Bounded part (move reader 1 written)
+  one h reader written l = record { some = λ _. omega arith; used = h; wrote = l }
+
+  either : (t : Bool) (m n : Move) → Bounded part m → Bounded part n → Bounded part (pick t m n)
+  either true m n b c = b
+  either false m n b c = c
+
   begun-bounded : 0 < length part → Bounded part (begun part)
   unfolding begun
   begun-bounded h =
-      cases (eqb (getD part 0 0) 10) (eqb (getD part 0 0) 13) (eqb (getD part 0 0) 62)
-    where
-      cases : (t u v : Bool) → Bounded part (pick t (move Reader.Start 1 []) (pick u (move Reader.StartHeld 1 []) (pick v (move (Reader.Header 0) 1 []) refusing)))
-      cases true u v = record { some = λ _. omega arith; used = h; wrote = omega arith }
-      cases false true v = record { some = λ _. omega arith; used = h; wrote = omega arith }
-      cases false false true = record { some = λ _. omega arith; used = h; wrote = omega arith }
-      cases false false false = record { some = λ _. omega arith; used = h; wrote = omega arith }
+      either (eqb (getD part 0 0) 10) _ _ (one h Reader.Start [] (omega arith))
+      (either (eqb (getD part 0 0) 13) _ _ (one h Reader.StartHeld [] (omega arith))
+      (either (eqb (getD part 0 0) 62) _ _ (one h (Reader.Header 0) [] (omega arith)) (one h Reader.Ended _ (omega arith))))
 
   begun-held-bounded : 0 < length part → Bounded part (begunHeld part)
   unfolding begunHeld
-  begun-held-bounded h =
-      cases (goesOn part)
-    where
-      cases : (t : Bool) → Bounded part (pick t refusing (move Reader.Start 1 []))
-      cases true = record { some = λ _. omega arith; used = h; wrote = omega arith }
-      cases false = record { some = λ _. omega arith; used = h; wrote = omega arith }
+  begun-held-bounded h = either (goesOn part) _ _ (one h Reader.Ended _ (omega arith)) (one h Reader.Start [] (omega arith))
 
   header-bounded : (i : ℕ) → Bounded part (inHeader i part)
   unfolding inHeader
@@ -79,21 +75,11 @@ module _ (part : List ℕ) where
 
   line-held-bounded : 0 < length part → (k : Record) → Bounded part (inLineHeld k part)
   unfolding inLineHeld
-  line-held-bounded h k =
-      cases (goesOn part)
-    where
-      cases : (t : Bool) → Bounded part (pick t (inLine (lengthened k 1) part) (move (Reader.Fresh k) 1 []))
-      cases true = line-bounded (lengthened k 1)
-      cases false = record { some = λ _. omega arith; used = h; wrote = omega arith }
+  line-held-bounded h k = either (goesOn part) _ _ (line-bounded (lengthened k 1)) (one h (Reader.Fresh k) [] (omega arith))
 
   fresh-bounded : 0 < length part → (k : Record) (bases flags : List ℕ) → Bounded part (atLine k part bases flags)
   unfolding atLine
-  fresh-bounded h k bases flags =
-      cases (isHeader part)
-    where
-      cases : (t : Bool) → Bounded part (pick t (move (Reader.Header (ordinal k)) 1 (rowFrom k bases flags)) (inLine k part))
-      cases true = record { some = λ _. omega arith; used = h; wrote = row-from-length k bases flags }
-      cases false = line-bounded k
+  fresh-bounded h k bases flags = either (isHeader part) _ _ (one h (Reader.Header (ordinal k)) _ (row-from-length k bases flags)) (line-bounded k)
 
 pub next-bounded : (reader : Reader) (part bases flags : List ℕ) → Bounded part (next reader part bases flags)
 unfolding next
@@ -121,57 +107,6 @@ seen-empty (b ∷ bs) out h = absurd (omega arith)
 
 pub seen-none : (part out : List ℕ) → length out < 96 → seen part out ≡ []
 seen-none part out h = rw (lt-ltb (length out) 96 h)
-
--- nothing to look at: the buffers stay
-pub track-none : (w : ℕ) (reader : Reader) (bytes : List ℕ) → trackAfter w reader [] bytes ≡ bytes
-unfolding trackAfter lineTrack heldTrack lineEnd content
-track-none w Reader.Start bytes = refl
-track-none w Reader.StartHeld bytes = refl
-track-none w (Reader.Header i) bytes = refl
-track-none w (Reader.Fresh k) bytes = push-nothing w bytes (k .count)
-track-none w (Reader.Within k) bytes = push-nothing w bytes (k .count)
-track-none w (Reader.WithinHeld k) bytes = refl
-track-none w Reader.Ended bytes = refl
-
-pub other-none : (reader : Reader) (bases other : List ℕ) → otherAfter reader [] bases other ≡ other
-unfolding otherAfter
-other-none Reader.Start bases other = refl
-other-none Reader.StartHeld bases other = refl
-other-none (Reader.Header i) bases other = refl
-other-none (Reader.Fresh k) bases other = refl
-other-none (Reader.Within k) bases other = refl
-other-none (Reader.WithinHeld k) bases other = refl
-other-none Reader.Ended bases other = refl
-
--- the tracks keep their size
-line-track-length : (w : ℕ) (k : Record) (part bytes : List ℕ) → length (lineTrack w k part bytes) ≡ length bytes
-unfolding lineTrack
-line-track-length w k part bytes = push-length w bytes (k .count) (lineLetters part)
-
-held-track-length : (w : ℕ) (k : Record) (part bytes : List ℕ) → length (heldTrack w k part bytes) ≡ length bytes
-unfolding heldTrack
-held-track-length w k part bytes =
-    let returned : List ℕ = after w bytes (k .count) (pushAscii (13 ∷ [])) in
-    cases returned (push-length w bytes (k .count) (13 ∷ [])) (goesOn part)
-  where
-    cases : (bytes′ : List ℕ) → length bytes′ ≡ length bytes → (t : Bool) → length (pick t (lineTrack w (lengthened k 1) part bytes′) bytes) ≡ length bytes
-    cases bytes′ e true = line-track-length w (lengthened k 1) part bytes′ ∙ e
-    cases bytes′ e false = refl
-
-pub track-length : (w : ℕ) (reader : Reader) (part bytes : List ℕ) → length (trackAfter w reader part bytes) ≡ length bytes
-unfolding trackAfter
-track-length w Reader.Start part bytes = refl
-track-length w Reader.StartHeld part bytes = refl
-track-length w (Reader.Header i) part bytes = refl
-track-length w (Reader.Fresh k) part bytes =
-    cases (isHeader part)
-  where
-    cases : (t : Bool) → length (pick t bytes (lineTrack w k part bytes)) ≡ length bytes
-    cases true = refl
-    cases false = line-track-length w k part bytes
-track-length w (Reader.Within k) part bytes = line-track-length w k part bytes
-track-length w (Reader.WithinHeld k) part bytes = held-track-length w k part bytes
-track-length w Reader.Ended part bytes = refl
 
 -- what the end of the input writes
 pub closed-length : (k : Record) (bases flags : List ℕ) → length (closed k bases flags) ≤ 92

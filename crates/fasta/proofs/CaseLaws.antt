@@ -17,7 +17,8 @@ use Rattle.fasta.specs.declared.reader.Record.{Record}
 use Rattle.fasta.specs.declared.reader.Reader.{Reader}
 use Rattle.fasta.specs.declared.reader.Reader.the-variants as Reader
 use Rattle.fasta.specs.declared.reader.Stepped.{Stepped}
-use Rattle.fasta.proofs.BoundLaws.{row-from-length, seen-all, track-none, other-none}
+use Rattle.fasta.proofs.BoundLaws.{row-from-length, seen-all}
+use Rattle.fasta.proofs.BufferLaws.{track-none, other-none}
 use Rattle.fasta.proofs.LineLaws.{header-first}
 use Rattle.fasta.proofs.RowLaws.{put-as}
 use Rattle.rows.proofs.SetsLaws.{put-then}

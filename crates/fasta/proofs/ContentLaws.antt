@@ -26,7 +26,7 @@ content-after b [] h = rw (ne-eqb b 13 h)
 content-after b (c ∷ l) h = refl
 
 -- all of the line, or all but a CR
-pub content-or : (xs : List ℕ) → (content xs ≡ xs) ⊎ (xs ≡ content xs ++ (13 ∷ []))
+content-or : (xs : List ℕ) → (content xs ≡ xs) ⊎ (xs ≡ content xs ++ (13 ∷ []))
 unfolding content
 content-or [] = inl refl
 content-or (b ∷ []) =

@@ -13,7 +13,7 @@ use Rattle.fasta.specs.declared.reader.Reader.the-variants as Reader
 use Rattle.fasta.proofs.Rest.{State, start, startHeld, header, fresh, within, withinHeld, rest, recordsBefore}
 use Rattle.fasta.proofs.Meaning.{Holds, Reads}
 use Rattle.fasta.proofs.HoldLaws.{holds-none}
-use Rattle.fasta.proofs.StepLaws.{row-held}
+use Rattle.fasta.proofs.KeptLaws.{row-held}
 
 rest-fresh : (i : ℕ) (ls : List ℕ) → rest (fresh i ls) [] ≡ row (suc i) ls ++ totalOf (suc i)
 unfolding rest totalOf

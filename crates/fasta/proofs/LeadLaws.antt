@@ -7,7 +7,8 @@ use native.Mathlib.Omega.{arith}
 use lib.ListN.{length, getD}
 use Rattle.fasta.specs.Report.{content, row, refusedText}
 use Rattle.fasta.proofs.Rest.{State, start, startHeld, header, fresh, within, withinHeld, ended, rest, Leads}
-use Rattle.fasta.proofs.RestLaws.{Without, start-blank, start-header, start-letter, start-return, held-blank, held-letter, header-run, header-end, within-run, within-before, within-end, held-end, held-more, fresh-header, fresh-letters}
+use Rattle.fasta.proofs.RestLaws.{Without, start-blank, start-header, start-letter, start-return, held-blank, held-letter, header-run, header-end}
+use Rattle.fasta.proofs.RestLaws.{within-run, within-before, within-end, held-end, held-more, fresh-header, fresh-letters}
 
 pub leads-none : (s : State) → Leads s [] [] s
 leads-none s = record { says = λ more. refl; counts = omega arith }

@@ -10,8 +10,12 @@ pub mod HoldLaws
 pub mod FrontLaws
 pub mod RowLaws
 pub mod BoundLaws
+pub mod BufferLaws
 pub mod LeadLaws
 pub mod CaseLaws
+pub mod KeptLaws
+pub mod HeadSteps
+pub mod LineSteps
 pub mod StepLaws
 pub mod FinishLaws
 pub mod FeedLaws

@@ -12,7 +12,7 @@ use lib.ListN.{length, take, getD, length-take}
 use lib.Seq.{getD-take, take-take, take-suc, length-take-le}
 use Rattle.codes.specs.Codes.{pick}
 use Rattle.fasta.specs.Report.{content, isHeader}
-use Rattle.fasta.specs.Steps.{lineEnd, endsLine, lineLetters, endsInReturn, goesOn}
+use Rattle.fasta.specs.Steps.{lineEnd, endsLine, lineLetters, endsInReturn, goesOn, lineUsed}
 use Rattle.fasta.proofs.ContentLaws.{content-inside, content-front, content-return, content-same}
 use Rattle.fasta.proofs.RestLaws.{Without}
 
@@ -56,7 +56,7 @@ module _ (part : List ℕ) where
       let m : k < lineEnd part = omega (arith, length-take (lineEnd part) part) in
       line-end part .before k m (sym (getD-take (lineEnd part) part k 0 m) ∙ e)
 
-  pub line-size : length (take (lineEnd part) part) ≡ lineEnd part
+  line-size : length (take (lineEnd part) part) ≡ lineEnd part
   line-size = length-take-le (lineEnd part) part (line-end part .inside)
 
   pub letters-plain : Without 10 (lineLetters part)
@@ -71,8 +71,17 @@ module _ (part : List ℕ) where
   pub line-same : endsInReturn part ≡ false → lineLetters part ≡ take (lineEnd part) part
   line-same e = content-same (take (lineEnd part) part) (omega (arith, line-size, ltb-false (length (lineLetters part)) (lineEnd part) e))
 
-  pub line-whole : lineEnd part < length part → take (lineEnd part + 1) part ≡ take (lineEnd part) part ++ (10 ∷ [])
+  line-whole : lineEnd part < length part → take (lineEnd part + 1) part ≡ take (lineEnd part) part ++ (10 ∷ [])
   line-whole l = ap (λ (k : ℕ). take k part) (add-one (lineEnd part)) ∙ take-suc part (lineEnd part) 0 l ∙ ap (λ (b : ℕ). take (lineEnd part) part ++ (b ∷ [])) (line-end part .found l)
+
+  -- what is taken: the rest of the line is in this part, or it is not
+  abbrev pub lineTaken : Bool → List ℕ
+  lineTaken true = take (lineEnd part) part ++ (10 ∷ [])
+  lineTaken false = take (lineEnd part) part
+
+  pub line-taken : (t : Bool) → endsLine part ≡ t → take (lineUsed part) part ≡ lineTaken t
+  line-taken true e = rw e (line-whole (ltb-true (lineEnd part) (length part) e))
+  line-taken false e = rw e
 
 -- a place r where the line ends: at the end of the part, or before it
 module _ (part : List ℕ) (r : ℕ) (e : r ≡ lineEnd part) where
@@ -105,9 +114,9 @@ module _ (part : List ℕ) (r : ℕ) (e : r ≡ lineEnd part) where
     letters-all q = le-ltb (length (lineLetters part)) (lineEnd part) (omega (arith, letters-length, length-take n part, letters-fit))
 
 -- the first byte of a part
-pub take-one : (part : List ℕ) → 0 < length part → take 1 part ≡ getD part 0 0 ∷ []
-take-one [] h = absurd (omega arith)
-take-one (b ∷ part) h = refl
+pub first-taken : (part : List ℕ) → 0 < length part → (b : ℕ) → getD part 0 0 ≡ b → take 1 part ≡ b ∷ []
+first-taken [] h b e = absurd (omega arith)
+first-taken (x ∷ part) h b e = ap (λ (y : ℕ). y ∷ []) e
 
 pub goes-first : (part : List ℕ) → 0 < length part → goesOn part ≡ not (eqb (getD part 0 0) 10)
 goes-first [] h = absurd (omega arith)

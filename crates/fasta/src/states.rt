@@ -147,15 +147,15 @@ pub(crate) fn in_line_held(
     ensures bases { λ _. ⌜ now (bases .exit) ≡ heldTrack 2 kept (now (part .entry)) (now (bases .entry)) ⌝ }
     ensures flags { λ _. ⌜ now (flags .exit) ≡ heldTrack 1 kept (now (part .entry)) (now (flags .entry)) ⌝ }
 {
-    if part[0] != b'\n' {
-        let longer = add_letters(kept, b"\r", bases, flags);
-        return in_line(longer, part, bases, flags);
+    if part[0] == b'\n' {
+        return Stepped {
+            reader: Reader::Fresh(kept),
+            used: 1,
+            wrote: 0,
+        };
     }
-    Stepped {
-        reader: Reader::Fresh(kept),
-        used: 1,
-        wrote: 0,
-    }
+    let longer = add_letters(kept, b"\r", bases, flags);
+    in_line(longer, part, bases, flags)
 }
 
 // In a record, at the start of a line.

@@ -10,6 +10,13 @@ use Rattle.fasta.proofs.states.in_line_held.Tie as tie
 shared-slice-read-if1 : tie.Need-shared-slice-read-if1
 shared-slice-read-if1 c = search needs
 
+returns : tie.Need-returns
+unfolding inLineHeld heldTrack
+returns c =
+    let s = c .before .before .before in
+    let e = goes-first (s .args .part .now) (s .pre) in
+    (rw (e, eq-eqb _ 10 (c .if1 .taken)), (rw (e, eq-eqb _ 10 (c .if1 .taken)), rw (e, eq-eqb _ 10 (c .if1 .taken))))
+
 slice-aggregate-add-letters : tie.Need-slice-aggregate-add-letters
 slice-aggregate-add-letters c = search needs
 
@@ -19,31 +26,18 @@ add-letters-requires c κs = search needs
 in-line-requires : tie.Need-in-line-requires
 in-line-requires c κs = search needs
 
-returns : tie.Need-returns
-unfolding inLineHeld heldTrack
-returns c =
-    let k = c .before .before .before in
-    let e = k .before .before .before .before in
-    let s = e .before .before .before in
-    let a = k .add-letters .ensures in
-    let p = c .in-line .ensures in (
-      rw (goes-first (s .args .part .now) (s .pre), ne-eqb _ 10 (e .if1 .taken), ← a .0) (p .0),
-      (
-        rw (goes-first (s .args .part .now) (s .pre), ne-eqb _ 10 (e .if1 .taken), ← a .0, ← a .1 .0) (p .1 .0),
-        rw (goes-first (s .args .part .now) (s .pre), ne-eqb _ 10 (e .if1 .taken), ← a .0, ← a .1 .1) (p .1 .1),
-      ),
-    )
-
 returns-2 : tie.Need-returns-2
 unfolding inLineHeld heldTrack
 returns-2 c =
-    let s = c .before .before .before in (
-      rw (goes-first (s .args .part .now) (s .pre), eq-eqb _ 10 (c .if1 .left)),
-      (
-        rw (goes-first (s .args .part .now) (s .pre), eq-eqb _ 10 (c .if1 .left)),
-        rw (goes-first (s .args .part .now) (s .pre), eq-eqb _ 10 (c .if1 .left)),
-      ),
+    let k = c .before .before .before in
+    let f = k .before .before .before .before in
+    let s = f .before .before .before in
+    let e = goes-first (s .args .part .now) (s .pre) in
+    let a = k .add-letters .ensures in
+    let p = c .in-line .ensures in (
+      rw (e, ne-eqb _ 10 (f .if1 .left), ← a .0) (p .0),
+      (rw (e, ne-eqb _ 10 (f .if1 .left), ← a .0, ← a .1 .0) (p .1 .0), rw (e, ne-eqb _ 10 (f .if1 .left), ← a .0, ← a .1 .1) (p .1 .1)),
     )
 
 pub in-line-held-spec : {M : Type 1} → statement M
-in-line-held-spec = tie.close (tie.spec shared-slice-read-if1 slice-aggregate-add-letters add-letters-requires in-line-requires returns returns-2)
+in-line-held-spec = tie.close (tie.spec shared-slice-read-if1 returns slice-aggregate-add-letters add-letters-requires in-line-requires returns-2)
