@@ -43,10 +43,11 @@ lineEnd (b ∷ bs) = pick (eqb b 10) 0 (suc (lineEnd bs))
 abbrev pub endsLine : List ℕ → Bool
 endsLine part = ltb (lineEnd part) (length part)
 
--- the letters of the line in this part. A CR behind them is part of its end, or not to be judged yet.
+-- the letters of the line in this part
 abbrev pub lineLetters : List ℕ → List ℕ
 lineLetters part = content (take (lineEnd part) part)
 
+-- a CR stands behind them: it belongs to the line end or, with no LF in this part, is not to be judged yet
 abbrev pub endsInReturn : List ℕ → Bool
 endsInReturn part = ltb (length (lineLetters part)) (lineEnd part)
 

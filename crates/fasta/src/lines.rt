@@ -18,7 +18,7 @@ pub(crate) fn line_end(part: &[u8]) -> usize
     i
 }
 
-// The number of bytes of a line without its end: a CR that is its last byte belongs to that.
+// The number of bytes of a line's content: all of them, or all but the CR that ends it.
 pub(crate) fn content_length(line: &[u8]) -> usize
     ensures { λ r. ⌜ r ≡ length (content (now (line .entry))) ⌝ }
 {
