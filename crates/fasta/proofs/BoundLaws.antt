@@ -10,7 +10,7 @@ use lib.Dec.{eqb}
 use lib.ListN.{length, getD, length-append}
 use Rattle.codes.specs.Codes.{pick}
 use Rattle.fasta.specs.Report.{isHeader, totalOf}
-use Rattle.fasta.specs.Records.{opened, lengthened, ordinal, ambiguousIn, strandIn, rowFrom, closed}
+use Rattle.fasta.specs.Records.{lengthened, ordinal, ambiguousIn, strandIn, rowFrom, closed}
 use Rattle.fasta.specs.Steps.{Move, move, stepped, tooShort, seen, lineEnd, endsLine, goesOn, lineUsed, begun, begunHeld, inHeader, inLine, inLineHeld, atLine, next, ending, lastLines}
 use Rattle.fasta.specs.declared.reader.Record.{Record}
 use Rattle.fasta.specs.declared.reader.Reader.{Reader}
@@ -116,10 +116,10 @@ closed-length k bases flags = omega (arith, length-append (rowFrom k bases flags
 pub ending-length : (reader : Reader) (bases flags : List ℕ) → length (ending reader bases flags) ≤ 92
 ending-length Reader.Start bases flags = omega (arith, total-length 0)
 ending-length Reader.StartHeld bases flags = omega (arith, total-length 0)
-ending-length (Reader.Header i) bases flags = closed-length (opened i) bases flags
-ending-length (Reader.Fresh k) bases flags = closed-length k bases flags
-ending-length (Reader.Within k) bases flags = closed-length k bases flags
-ending-length (Reader.WithinHeld k) bases flags = closed-length k bases flags
+ending-length (Reader.Header i) bases flags = closed-length _ bases flags
+ending-length (Reader.Fresh k) bases flags = closed-length _ bases flags
+ending-length (Reader.Within k) bases flags = closed-length _ bases flags
+ending-length (Reader.WithinHeld k) bases flags = closed-length _ bases flags
 ending-length Reader.Ended bases flags = omega arith
 
 pub last-length : (reader : Reader) (bases flags out : List ℕ) → length (lastLines reader bases flags out) ≤ 92
