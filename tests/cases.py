@@ -86,8 +86,8 @@ def at_random():
 
 
 def differs(data):
-    wrote = subprocess.run(sys.argv[1:], input=data, stdout=subprocess.PIPE, stderr=subprocess.STDOUT).stdout
-    return wrote != report(data).encode()
+    ran = subprocess.run(sys.argv[1:], input=data, stdout=subprocess.PIPE, stderr=subprocess.STDOUT)
+    return ran.returncode != 0 or ran.stdout != report(data).encode()
 
 
 def compared(pool, name, inputs):

@@ -6,9 +6,9 @@ use Prim.Native.Nat.{ℕ, suc, _<_}
 use native.Mathlib.Omega.{arith}
 use lib.ListN.{length, getD}
 use Rattle.fasta.specs.Report.{content, row, refusedText}
-use Rattle.fasta.proofs.Rest.{State, start, startHeld, header, fresh, within, withinHeld, ended, rest, Leads}
+use Rattle.fasta.proofs.Rest.{State, start, startHeld, header, fresh, within, withinHeld, ended, rest, recordsBefore, Leads}
 use Rattle.fasta.proofs.RestLaws.{Without, start-blank, start-header, start-letter, start-return, held-blank, held-letter, header-run, header-end}
-use Rattle.fasta.proofs.RestLaws.{within-run, within-before, within-end, held-end, held-more, fresh-header, fresh-letters}
+use Rattle.fasta.proofs.RestLaws.{within-run, within-before, within-end, held-end, fresh-header}
 
 pub leads-none : (s : State) → Leads s [] [] s
 leads-none s = record { says = λ more. refl; counts = omega arith }
@@ -75,11 +75,8 @@ module _ (i : ℕ) (xs : List ℕ) (p : Without 10 xs) where
 pub leads-held-end : (i : ℕ) (ls : List ℕ) → Leads (withinHeld i ls) (10 ∷ []) [] (fresh i ls)
 leads-held-end i ls = record { says = held-end i ls; counts = omega arith }
 
-pub leads-held : (i : ℕ) (ls xs written : List ℕ) (s′ : State) → 0 < length xs → (getD xs 0 0 ≡ 10 → ⊥) → Leads (within i (ls ++ (13 ∷ []))) xs written s′ → Leads (withinHeld i ls) xs written s′
-leads-held i ls [] written s′ h n l = absurd (omega arith)
-leads-held i ls (b ∷ xs) written s′ h n l = record { says = λ more. held-more i ls b (xs ++ more) n ∙ l .says more; counts = l .counts }
-
--- a line that opens no record
-pub leads-letters : (i : ℕ) (ls xs written : List ℕ) (s′ : State) → 0 < length xs → (getD xs 0 0 ≡ 62 → ⊥) → Leads (within i ls) xs written s′ → Leads (fresh i ls) xs written s′
-leads-letters i ls [] written s′ h n l = absurd (omega arith)
-leads-letters i ls (b ∷ xs) written s′ h n l = record { says = λ more. fresh-letters i b ls (xs ++ more) n ∙ l .says more; counts = l .counts }
+-- a state of which the report says what it says of another, by the first byte
+pub leads-as : (s₀ s₁ s′ : State) (xs written : List ℕ) → 0 < length xs → recordsBefore s₁ ≡ recordsBefore s₀
+    → ((bs : List ℕ) → rest s₀ (getD xs 0 0 ∷ bs) ≡ rest s₁ (getD xs 0 0 ∷ bs)) → Leads s₁ xs written s′ → Leads s₀ xs written s′
+leads-as s₀ s₁ s′ [] written h n e l = absurd (omega arith)
+leads-as s₀ s₁ s′ (b ∷ xs) written h n e l = record { says = λ more. e (xs ++ more) ∙ l .says more; counts = omega (arith, l .counts) }

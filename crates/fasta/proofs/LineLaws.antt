@@ -1,4 +1,4 @@
--- Where a line ends: the bytes before hold no LF, and an LF stands there if the part goes on.
+-- Where a line ends, and where its letters do: the bytes before hold no LF, and an LF stands there if the part goes on.
 -- Assumes nothing.
 use mathlib.Core.Bool.{Bool, true, false, not}
 use mathlib.Core.List.{List, [], _∷_, _++_}

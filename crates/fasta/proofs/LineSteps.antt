@@ -18,10 +18,11 @@ use Rattle.fasta.specs.Buffers.{lineTrack, heldTrack, trackAfter}
 use Rattle.fasta.specs.declared.reader.Record.{Record}
 use Rattle.fasta.specs.declared.reader.Reader.{Reader}
 use Rattle.fasta.specs.declared.reader.Reader.the-variants as Reader
-use Rattle.fasta.proofs.Rest.{header, fresh, within, withinHeld, Leads}
-use Rattle.fasta.proofs.Meaning.{Sized, Holds, Onward}
+use Rattle.fasta.proofs.Rest.{State, header, fresh, within, withinHeld, rest, recordsBefore, Leads}
+use Rattle.fasta.proofs.Meaning.{Sized, Holds, From, Onward}
 use Rattle.fasta.proofs.HoldLaws.{push-length, lengthens}
-use Rattle.fasta.proofs.LeadLaws.{leads-next, leads-within, leads-within-held, leads-within-end, leads-held, leads-held-end, leads-letters}
+use Rattle.fasta.proofs.RestLaws.{held-more, fresh-letters}
+use Rattle.fasta.proofs.LeadLaws.{leads-next, leads-within, leads-within-held, leads-within-end, leads-held-end, leads-as}
 use Rattle.fasta.proofs.LineLaws.{line-plain, letters-plain, line-returns, line-same, lineTaken, line-taken, first-taken, goes-first, header-first}
 use Rattle.fasta.proofs.BoundLaws.{line-bounded}
 use Rattle.fasta.proofs.KeptLaws.{row-held}
@@ -68,25 +69,28 @@ module _ (part bases flags : List ℕ) where
             (λ l. (within (m .0) (m .1 ++ letters), (m .0, m .1 ++ letters, refl, grown (m .0) (m .1) (m .3)), leads-within (m .0) (lineTaken part false) (line-plain part) (m .1) (line-same part f)))
             s (m .2)
 
-    -- what is taken begins as the part does
-    line-first : 0 < length part → (0 < length (take (inLine k part .used) part)) × (getD (take (inLine k part .used) part) 0 0 ≡ getD part 0 0)
-    line-first h =
-        let u : 0 < inLine k part .used = line-bounded part k .some h in
-        (omega (arith, length-take (inLine k part .used) part), getD-take (inLine k part .used) part 0 0 u)
+    -- from a state of which the report says, by the first byte, what it says within a line
+    line-as : 0 < length part → (s₀ : State) (i : ℕ) (ls : List ℕ) → i ≡ recordsBefore s₀ → Holds k bases flags i ls
+        → ((bs : List ℕ) → rest s₀ (getD part 0 0 ∷ bs) ≡ rest (within i ls) (getD part 0 0 ∷ bs))
+        → (s : State) → s ≡ s₀ → From s (take (inLine k part .used) part) (inLine k part) bases′ flags′
+    line-as h s₀ i ls n holds e =
+        let m : Move = inLine k part in
+        let u : 0 < m .used = line-bounded part k .some h in
+        let first : getD part 0 0 ≡ getD (take (m .used) part) 0 0 = sym (getD-take (m .used) part 0 0 u) in
+        from-one s₀ (take (m .used) part) m bases′ flags′
+        (λ l.
+        let g = line-onward (within i ls) (i, ls, refl, holds) (omega arith) in (
+          g .0,
+          g .1,
+          leads-as s₀ (within i ls) (g .0) (take (m .used) part) (m .written) (omega (arith, length-take (m .used) part)) n
+              (subst (λ (b : ℕ). (bs : List ℕ) → rest s₀ (b ∷ bs) ≡ rest (within i ls) (b ∷ bs)) first e) (g .2),
+        ))
 
     -- and at the start of one
     line-letters : 0 < length part → isHeader part ≡ false → Onward (Reader.Fresh k) bases flags (take (inLine k part .used) part) (inLine k part) bases′ flags′
     line-letters h e s j =
-        from-one (fresh (j .0) (j .1)) (take (inLine k part .used) part) (inLine k part) bases′ flags′
-        (λ l.
-        let g = line-onward (within (j .0) (j .1)) (j .0, j .1, refl, j .3) l in
-        let f = line-first h in (
-          g .0,
-          g .1,
-          leads-letters (j .0) (j .1) (take (inLine k part .used) part) (inLine k part .written) (g .0) (f .0)
-              (λ q. eqb-false (getD part 0 0) 62 (sym (header-first part h) ∙ e) (sym (f .1) ∙ q)) (g .2),
-        ))
-        s (j .2)
+        line-as h (fresh (j .0) (j .1)) (j .0) (j .1) refl (j .3)
+        (λ bs. fresh-letters (j .0) (getD part 0 0) (j .1) bs (eqb-false (getD part 0 0) 62 (sym (header-first part h) ∙ e))) s (j .2)
 
     line-next : 0 < length part → isHeader part ≡ true → Onward (Reader.Fresh k) bases flags (take 1 part) (move (Reader.Header (ordinal k)) 1 (rowFrom k bases flags)) bases flags
     line-next h e s j =
@@ -130,16 +134,8 @@ module _ (part bases flags : List ℕ) (size : Sized bases flags) (k : Record) (
   held-letters : (getD part 0 0 ≡ 10 → ⊥)
       → Onward (Reader.WithinHeld k) bases flags (take (inLine returned part .used) part) (inLine returned part) (lineTrack 2 returned part bases″) (lineTrack 1 returned part flags″)
   held-letters n s j =
-      from-one (withinHeld (j .0) (j .1)) (take (inLine returned part .used) part) (inLine returned part) (lineTrack 2 returned part bases″) (lineTrack 1 returned part flags″)
-      (λ l.
-      let ls : List ℕ = j .1 ++ (13 ∷ []) in
-      let g = line-onward part bases″ flags″ size″ returned (within (j .0) ls) (j .0, ls, refl, lengthens k bases flags (13 ∷ []) size (j .0) (j .1) (j .3)) l in
-      let f = line-first part bases″ flags″ size″ returned h in (
-        g .0,
-        g .1,
-        leads-held (j .0) (j .1) (take (inLine returned part .used) part) (inLine returned part .written) (g .0) (f .0) (λ q. n (sym (f .1) ∙ q)) (g .2),
-      ))
-      s (j .2)
+      line-as part bases″ flags″ size″ returned h (withinHeld (j .0) (j .1)) (j .0) (j .1 ++ (13 ∷ [])) refl
+      (lengthens k bases flags (13 ∷ []) size (j .0) (j .1) (j .3)) (λ bs. held-more (j .0) (j .1) (getD part 0 0) bs n) s (j .2)
 
   held-end : getD part 0 0 ≡ 10 → Onward (Reader.WithinHeld k) bases flags (take 1 part) (move (Reader.Fresh k) 1 []) bases flags
   held-end e s j =

@@ -27,8 +27,8 @@ laterLines [] = []
 laterLines (l ∷ ls) = ls
 
 -- what the report says of lines of which the first goes on with a record
-abbrev pub goingOn : ℕ → List ℕ → List (List ℕ) → List ℕ
-goingOn i ls L = rows i (records (ls ++ content (firstLine L)) (map content (laterLines L)))
+abbrev pub resumed : ℕ → List ℕ → List (List ℕ) → List ℕ
+resumed i ls L = rows i (records (ls ++ content (firstLine L)) (map content (laterLines L)))
 
 -- what it says of the bytes to come
 unfoldable pub rest : State → List ℕ → List ℕ
@@ -37,8 +37,8 @@ rest start bs = table (map content (lines bs))
 rest startHeld bs = table (map content (lines (13 ∷ bs)))
 rest (header i) bs = rows i (records [] (map content (laterLines (lines bs))))
 rest (fresh i ls) bs = rows i (records ls (map content (lines bs)))
-rest (within i ls) bs = goingOn i ls (lines bs)
-rest (withinHeld i ls) bs = goingOn i ls (lines (13 ∷ bs))
+rest (within i ls) bs = resumed i ls (lines bs)
+rest (withinHeld i ls) bs = resumed i ls (lines (13 ∷ bs))
 rest ended bs = []
 
 abbrev pub recordsBefore : State → ℕ

@@ -9,7 +9,7 @@ use borrow.Author.Tests.{ne-eqb, eqb-true, eqb-false}
 use lib.Dec.{eqb}
 use lib.ListN.{length, getD}
 use Rattle.fasta.specs.Report.{longer, lines, content, isHeader, records, rows, row, table, refusedText}
-use Rattle.fasta.proofs.Rest.{start, startHeld, header, fresh, within, withinHeld, ended, firstLine, laterLines, goingOn, rest}
+use Rattle.fasta.proofs.Rest.{start, startHeld, header, fresh, within, withinHeld, ended, firstLine, laterLines, resumed, rest}
 use Rattle.fasta.proofs.ContentLaws.{content-before, content-after, content-more, content-header}
 
 -- no byte of bs is b
@@ -80,12 +80,12 @@ header-end i xs bs p = header-run i xs (10 ∷ bs) p
 
 -- in a record, within a line
 module _ (i : ℕ) (ls xs : List ℕ) (p : Without 10 xs) where
-  line-run : (bs : List ℕ) → goingOn i ls (lines (xs ++ bs)) ≡ rows i (records (ls ++ content (xs ++ firstLine (lines bs))) (map content (laterLines (lines bs))))
+  line-run : (bs : List ℕ) → resumed i ls (lines (xs ++ bs)) ≡ rows i (records (ls ++ content (xs ++ firstLine (lines bs))) (map content (laterLines (lines bs))))
   line-run bs =
       let r = lines-run xs bs p in
       ap₂ (λ (l : List ℕ) (L : List (List ℕ)). rows i (records (ls ++ content l) (map content L))) (r .0) (r .1)
 
-  line-more : (bs : List ℕ) → content (xs ++ firstLine (lines bs)) ≡ xs ++ content (firstLine (lines bs)) → goingOn i ls (lines (xs ++ bs)) ≡ goingOn i (ls ++ xs) (lines bs)
+  line-more : (bs : List ℕ) → content (xs ++ firstLine (lines bs)) ≡ xs ++ content (firstLine (lines bs)) → resumed i ls (lines (xs ++ bs)) ≡ resumed i (ls ++ xs) (lines bs)
   line-more bs e =
       let L : List (List ℕ) = lines bs in
       line-run bs

@@ -112,7 +112,7 @@ pub fn step(
     }
 }
 
-// The end of the input: writes the last row and the total, and answers how many bytes.
+// The end of the input: writes the last row and the total, and answers how many bytes. A CR that is held was part of the last line's end.
 pub fn finish(
     reader: Reader,
     bases: &[u8; BASES],
@@ -128,12 +128,11 @@ pub fn finish(
         return 0;
     }
     match reader {
-        Reader::Start => put_total(0, out, 0),
-        Reader::StartHeld => put_total(0, out, 0),
+        Reader::Start | Reader::StartHeld => put_total(0, out, 0),
         Reader::Header(number) => close(Record { number, count: 0 }, bases, flags, other, out),
-        Reader::Fresh(kept) => close(kept, bases, flags, other, out),
-        Reader::Within(kept) => close(kept, bases, flags, other, out),
-        Reader::WithinHeld(kept) => close(kept, bases, flags, other, out),
+        Reader::Fresh(kept) | Reader::Within(kept) | Reader::WithinHeld(kept) => {
+            close(kept, bases, flags, other, out)
+        }
         Reader::Ended => 0,
     }
 }
