@@ -1,6 +1,8 @@
 """The report of a FASTA file, from the rules alone: plain and slow. Reads standard input, writes standard output."""
 import sys
 
+HEADING = "record\tbases\tambiguous\tstrand\n"
+
 
 def lossy(byte):
     return byte // 2 % 4
@@ -16,19 +18,24 @@ def strand(letters):
     return "="
 
 
+def lines(data):
+    """Lines end at LF or at the end of input; one CR directly before the LF, or as the last byte of input, belongs to the line end."""
+    found = data.split(b"\n")
+    if found[-1] == b"":
+        found.pop()
+    return [line.removesuffix(b"\r") for line in found]
+
+
 def report(data):
-    lines = data.split(b"\n")
-    if lines[-1] == b"":
-        lines.pop()
-    text = "record\tbases\tambiguous\tstrand\n"
     records = []
-    for line in lines:
+    for line in lines(data):
         if line.startswith(b">"):
             records.append(b"")
         elif records:
             records[-1] += line
         elif line:
-            return text + "refused\n"
+            return HEADING + "refused\n"
+    text = HEADING
     for number, letters in enumerate(records, 1):
         if len(letters) > 16384:
             text += f"{number}\ttoo-long\n"
@@ -38,4 +45,5 @@ def report(data):
     return text + f"total\t{len(records)}\n"
 
 
-sys.stdout.write(report(sys.stdin.buffer.read()))
+if __name__ == "__main__":
+    sys.stdout.write(report(sys.stdin.buffer.read()))

@@ -1,23 +1,21 @@
--- What a step takes and writes stays within bounds, and so do the buffers.
+-- What a step takes and writes stays within bounds.
 -- Assumes nothing.
 use mathlib.Core.Bool.{Bool, true, false}
-use mathlib.Core.List.{List, [], _∷_, _++_}
+use mathlib.Core.List.{List, [], _∷_}
 use mathlib.Core.Path.{_≡_, refl, ap, _∙_}
 use Prim.Native.Nat.{ℕ, _+_, _≤_, _<_}
 use native.Mathlib.Omega.{arith}
 use borrow.Author.Tests.{ltb-true, ltb-false, lt-ltb, le-ltb}
 use lib.Dec.{eqb}
-use lib.ListN.{length, take, getD, length-append}
+use lib.ListN.{length, getD, length-append}
 use Rattle.codes.specs.Codes.{pick}
-use Rattle.fasta.specs.Report.{refusedText, isHeader, totalOf}
-use Rattle.fasta.specs.Records.{opened, ordinal, ambiguousIn, strandIn, rowFrom, closed}
-use Rattle.fasta.specs.Steps.{Move, move, stepped, tooShort, seen, lineEnd, endsLine, lineUsed, begun, inHeader, inLine, atLine, next, ending, lastLines}
-use Rattle.fasta.specs.Buffers.{lineTrack, trackAfter, otherAfter}
+use Rattle.fasta.specs.Report.{isHeader, totalOf}
+use Rattle.fasta.specs.Records.{lengthened, ordinal, ambiguousIn, strandIn, rowFrom, closed}
+use Rattle.fasta.specs.Steps.{Move, move, stepped, tooShort, seen, lineEnd, endsLine, goesOn, lineUsed, begun, begunHeld, inHeader, inLine, inLineHeld, atLine, next, ending, lastLines}
 use Rattle.fasta.specs.declared.reader.Record.{Record}
 use Rattle.fasta.specs.declared.reader.Reader.{Reader}
 use Rattle.fasta.specs.declared.reader.Reader.the-variants as Reader
 use Rattle.fasta.specs.declared.reader.Stepped.{Stepped}
-use Rattle.fasta.proofs.HoldLaws.{push-nothing, push-length}
 use Rattle.fasta.proofs.LineLaws.{line-end}
 use Rattle.fasta.proofs.RowLaws.{row-length, total-length}
 
@@ -48,15 +46,24 @@ module _ (part : List ℕ) where
       cases true e = omega (arith, ltb-true (lineEnd part) (length part) e)
       cases false e = omega (arith, line-end part .inside)
 
+  -- a step that takes one byte
+  one : 0 < length part → (reader : Reader) (written : List ℕ) → length written ≤ 65 → Bounded part (move reader 1 written)
+  one h reader written l = record { some = λ _. omega arith; used = h; wrote = l }
+
+  either : (t : Bool) (m n : Move) → Bounded part m → Bounded part n → Bounded part (pick t m n)
+  either true m n b c = b
+  either false m n b c = c
+
   begun-bounded : 0 < length part → Bounded part (begun part)
   unfolding begun
   begun-bounded h =
-      cases (eqb (getD part 0 0) 10) (eqb (getD part 0 0) 62)
-    where
-      cases : (t u : Bool) → Bounded part (pick t (move Reader.Start 1 []) (pick u (move (Reader.Header 0) 1 []) (move Reader.Ended 1 (refusedText ++ (10 ∷ [])))))
-      cases true u = record { some = λ _. omega arith; used = h; wrote = omega arith }
-      cases false true = record { some = λ _. omega arith; used = h; wrote = omega arith }
-      cases false false = record { some = λ _. omega arith; used = h; wrote = omega arith }
+      either (eqb (getD part 0 0) 10) _ _ (one h Reader.Start [] (omega arith))
+      (either (eqb (getD part 0 0) 13) _ _ (one h Reader.StartHeld [] (omega arith))
+      (either (eqb (getD part 0 0) 62) _ _ (one h (Reader.Header 0) [] (omega arith)) (one h Reader.Ended _ (omega arith))))
+
+  begun-held-bounded : 0 < length part → Bounded part (begunHeld part)
+  unfolding begunHeld
+  begun-held-bounded h = either (goesOn part) _ _ (one h Reader.Ended _ (omega arith)) (one h Reader.Start [] (omega arith))
 
   header-bounded : (i : ℕ) → Bounded part (inHeader i part)
   unfolding inHeader
@@ -66,22 +73,23 @@ module _ (part : List ℕ) where
   unfolding inLine
   line-bounded k = record { some = line-some; used = line-inside; wrote = omega arith }
 
+  line-held-bounded : 0 < length part → (k : Record) → Bounded part (inLineHeld k part)
+  unfolding inLineHeld
+  line-held-bounded h k = either (goesOn part) _ _ (line-bounded (lengthened k 1)) (one h (Reader.Fresh k) [] (omega arith))
+
   fresh-bounded : 0 < length part → (k : Record) (bases flags : List ℕ) → Bounded part (atLine k part bases flags)
   unfolding atLine
-  fresh-bounded h k bases flags =
-      cases (isHeader part)
-    where
-      cases : (t : Bool) → Bounded part (pick t (move (Reader.Header (ordinal k)) 1 (rowFrom k bases flags)) (inLine k part))
-      cases true = record { some = λ _. omega arith; used = h; wrote = row-from-length k bases flags }
-      cases false = line-bounded k
+  fresh-bounded h k bases flags = either (isHeader part) _ _ (one h (Reader.Header (ordinal k)) _ (row-from-length k bases flags)) (line-bounded k)
 
 pub next-bounded : (reader : Reader) (part bases flags : List ℕ) → Bounded part (next reader part bases flags)
 unfolding next
 next-bounded reader [] bases flags = record { some = λ h. absurd (omega arith); used = omega arith; wrote = omega arith }
 next-bounded Reader.Start (b ∷ bs) bases flags = begun-bounded (b ∷ bs) (omega arith)
+next-bounded Reader.StartHeld (b ∷ bs) bases flags = begun-held-bounded (b ∷ bs) (omega arith)
 next-bounded (Reader.Header i) (b ∷ bs) bases flags = header-bounded (b ∷ bs) i
 next-bounded (Reader.Fresh k) (b ∷ bs) bases flags = fresh-bounded (b ∷ bs) (omega arith) k bases flags
 next-bounded (Reader.Within k) (b ∷ bs) bases flags = line-bounded (b ∷ bs) k
+next-bounded (Reader.WithinHeld k) (b ∷ bs) bases flags = line-held-bounded (b ∷ bs) (omega arith) k
 next-bounded Reader.Ended (b ∷ bs) bases flags = record { some = λ h. omega arith; used = omega arith; wrote = omega arith }
 
 -- a step looks at all of a part where there is room, and else at nothing
@@ -100,41 +108,6 @@ seen-empty (b ∷ bs) out h = absurd (omega arith)
 pub seen-none : (part out : List ℕ) → length out < 96 → seen part out ≡ []
 seen-none part out h = rw (lt-ltb (length out) 96 h)
 
--- nothing to look at: the buffers stay
-pub track-none : (w : ℕ) (reader : Reader) (bytes : List ℕ) → trackAfter w reader [] bytes ≡ bytes
-unfolding trackAfter lineEnd
-track-none w Reader.Start bytes = refl
-track-none w (Reader.Header i) bytes = refl
-track-none w (Reader.Fresh k) bytes = push-nothing w bytes (k .count)
-track-none w (Reader.Within k) bytes = push-nothing w bytes (k .count)
-track-none w Reader.Ended bytes = refl
-
-pub other-none : (reader : Reader) (bases other : List ℕ) → otherAfter reader [] bases other ≡ other
-unfolding otherAfter
-other-none Reader.Start bases other = refl
-other-none (Reader.Header i) bases other = refl
-other-none (Reader.Fresh k) bases other = refl
-other-none (Reader.Within k) bases other = refl
-other-none Reader.Ended bases other = refl
-
--- the tracks keep their size
-line-track-length : (w : ℕ) (k : Record) (part bytes : List ℕ) → length (lineTrack w k part bytes) ≡ length bytes
-unfolding lineTrack
-line-track-length w k part bytes = push-length w bytes (k .count) (take (lineEnd part) part)
-
-pub track-length : (w : ℕ) (reader : Reader) (part bytes : List ℕ) → length (trackAfter w reader part bytes) ≡ length bytes
-unfolding trackAfter
-track-length w Reader.Start part bytes = refl
-track-length w (Reader.Header i) part bytes = refl
-track-length w (Reader.Fresh k) part bytes =
-    cases (isHeader part)
-  where
-    cases : (t : Bool) → length (pick t bytes (lineTrack w k part bytes)) ≡ length bytes
-    cases true = refl
-    cases false = line-track-length w k part bytes
-track-length w (Reader.Within k) part bytes = line-track-length w k part bytes
-track-length w Reader.Ended part bytes = refl
-
 -- what the end of the input writes
 pub closed-length : (k : Record) (bases flags : List ℕ) → length (closed k bases flags) ≤ 92
 unfolding closed
@@ -142,9 +115,11 @@ closed-length k bases flags = omega (arith, length-append (rowFrom k bases flags
 
 pub ending-length : (reader : Reader) (bases flags : List ℕ) → length (ending reader bases flags) ≤ 92
 ending-length Reader.Start bases flags = omega (arith, total-length 0)
-ending-length (Reader.Header i) bases flags = closed-length (opened i) bases flags
-ending-length (Reader.Fresh k) bases flags = closed-length k bases flags
-ending-length (Reader.Within k) bases flags = closed-length k bases flags
+ending-length Reader.StartHeld bases flags = omega (arith, total-length 0)
+ending-length (Reader.Header i) bases flags = closed-length _ bases flags
+ending-length (Reader.Fresh k) bases flags = closed-length _ bases flags
+ending-length (Reader.Within k) bases flags = closed-length _ bases flags
+ending-length (Reader.WithinHeld k) bases flags = closed-length _ bases flags
 ending-length Reader.Ended bases flags = omega arith
 
 pub last-length : (reader : Reader) (bases flags out : List ℕ) → length (lastLines reader bases flags out) ≤ 92

@@ -1,22 +1,24 @@
 -- The clauses of a call's contract, met on each of its ways out.
 -- Assumes nothing.
-use mathlib.Core.Bool.{true, false}
+use mathlib.Core.Bool.{Bool, true, false}
 use mathlib.Core.List.{List, [], _∷_, _++_}
 use mathlib.Core.Path.{_≡_, refl, sym, ap, ap₂, subst, _∙_}
 use Prim.Native.Nat.{ℕ, _≤_, _<_}
 use native.Mathlib.Omega.{arith}
 use borrow.Author.Tests.{eq-eqb, ne-eqb, lt-ltb, le-ltb}
 use lib.ListN.{length, getD}
+use Rattle.codes.specs.Codes.{pick}
 use Rattle.fasta.specs.Report.{isHeader, rowOf, totalOf}
 use Rattle.rows.specs.Columns.{Put}
-use Rattle.fasta.specs.Records.{ordinal, ambiguousIn, strandIn, rowFrom, closed, marked}
-use Rattle.fasta.specs.Steps.{Move, stepped, seen, inLine, atLine, moved, next, ending, lastLines}
+use Rattle.fasta.specs.Records.{lengthened, ordinal, ambiguousIn, strandIn, rowFrom, closed, marked}
+use Rattle.fasta.specs.Steps.{Move, move, stepped, seen, goesOn, inLine, inLineHeld, atLine, moved, next, ending, lastLines}
 use Rattle.fasta.specs.Buffers.{onto, lineTrack, trackAfter, otherAfter, endMarked, otherAtEnd}
 use Rattle.fasta.specs.declared.reader.Record.{Record}
 use Rattle.fasta.specs.declared.reader.Reader.{Reader}
 use Rattle.fasta.specs.declared.reader.Reader.the-variants as Reader
 use Rattle.fasta.specs.declared.reader.Stepped.{Stepped}
-use Rattle.fasta.proofs.BoundLaws.{row-from-length, seen-all, track-none, other-none}
+use Rattle.fasta.proofs.BoundLaws.{row-from-length, seen-all}
+use Rattle.fasta.proofs.BufferLaws.{track-none, other-none}
 use Rattle.fasta.proofs.LineLaws.{header-first}
 use Rattle.fasta.proofs.RowLaws.{put-as}
 use Rattle.rows.proofs.SetsLaws.{put-then}
@@ -54,6 +56,16 @@ unfolding next
 idle reader part bases flags other out e =
     subst (Seeing part bases flags other out (record { reader = reader; used = 0; wrote = 0 }) bases flags other out reader) (sym e)
     (refl, (sym (track-none 2 reader bases), (sym (track-none 1 reader flags), (sym (other-none reader bases other), refl))))
+
+-- after a CR nothing is written
+pub held-writes : (k : Record) (part : List ℕ) → [] ≡ inLineHeld k part .written
+unfolding inLine inLineHeld
+held-writes k part =
+    cases (goesOn part)
+  where
+    cases : (t : Bool) → [] ≡ pick t (inLine (lengthened k 1) part) (move (Reader.Fresh k) 1 []) .written
+    cases true = refl
+    cases false = refl
 
 -- in a record, at the start of a line
 module _ (k : Record) (part bases flags other out : List ℕ) where

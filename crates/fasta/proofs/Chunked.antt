@@ -16,7 +16,8 @@ use Rattle.fasta.specs.declared.reader.Reader.{Reader}
 use Rattle.fasta.specs.declared.reader.Reader.the-variants as Reader
 use Rattle.fasta.proofs.Rest.{State, start, ended, rest, recordsBefore, Leads}
 use Rattle.fasta.proofs.Meaning.{Sized, Reads, Onward}
-use Rattle.fasta.proofs.BoundLaws.{next-bounded, track-length}
+use Rattle.fasta.proofs.BoundLaws.{next-bounded}
+use Rattle.fasta.proofs.BufferLaws.{track-length}
 use Rattle.fasta.proofs.FinishLaws.{ending-says}
 use Rattle.fasta.proofs.StepLaws.{next-onward}
 

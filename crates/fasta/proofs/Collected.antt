@@ -81,9 +81,11 @@ none false e = let z : _≡_ {A = ℕ} 0 1 = cc in absurd (omega arith)
 
 stops : (reader : Reader) (left : Bool) → thenAfter reader left ≡ Then.Stop → reader ≡ Reader.Ended
 stops Reader.Start left e = none left e
+stops Reader.StartHeld left e = none left e
 stops (Reader.Header i) left e = none left e
 stops (Reader.Fresh k) left e = none left e
 stops (Reader.Within k) left e = none left e
+stops (Reader.WithinHeld k) left e = none left e
 stops Reader.Ended left e = refl
 
 -- what is written out of a text with bytes written behind those in use

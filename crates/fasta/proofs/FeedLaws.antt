@@ -18,7 +18,8 @@ use Rattle.fasta.specs.Feeds.{Way, ahead, further, along, feeding, fed, 
 use Rattle.fasta.specs.declared.reader.Reader.{Reader}
 use Rattle.fasta.specs.declared.reader.Stepped.{Stepped}
 use Rattle.fasta.specs.declared.feeds.Fed.{Fed}
-use Rattle.fasta.proofs.BoundLaws.{next-bounded, ending-length, seen-empty, track-none, other-none}
+use Rattle.fasta.proofs.BoundLaws.{next-bounded, ending-length, seen-empty}
+use Rattle.fasta.proofs.BufferLaws.{track-none, other-none}
 
 module _ (part out : List ℕ) where
   -- no more is taken than the part has, and no more written than there is room for

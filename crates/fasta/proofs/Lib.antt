@@ -1,6 +1,7 @@
 pub mod Listing
 pub mod Rest
 pub mod Meaning
+pub mod ContentLaws
 pub mod RestLaws
 pub mod LineLaws
 pub mod LetterLaws
@@ -9,12 +10,17 @@ pub mod HoldLaws
 pub mod FrontLaws
 pub mod RowLaws
 pub mod BoundLaws
+pub mod BufferLaws
 pub mod LeadLaws
 pub mod CaseLaws
+pub mod KeptLaws
+pub mod HeadSteps
+pub mod LineSteps
 pub mod StepLaws
 pub mod FinishLaws
 pub mod FeedLaws
 pub mod TurnLaws
 pub mod Chunked
 pub mod Collected
+pub mod LineEnds
 pub mod Decided

@@ -10,7 +10,7 @@ use Rattle.fasta.specs.Steps.{Move}
 use Rattle.fasta.specs.declared.reader.Record.{Record}
 use Rattle.fasta.specs.declared.reader.Reader.{Reader}
 use Rattle.fasta.specs.declared.reader.Reader.the-variants as Reader
-use Rattle.fasta.proofs.Rest.{State, start, header, fresh, within, ended, recordsBefore, Leads}
+use Rattle.fasta.proofs.Rest.{State, start, startHeld, header, fresh, within, withinHeld, ended, recordsBefore, Leads}
 
 -- the buffers of the two tracks have room for 16,384 letters
 pub record Sized (bs fs : List ℕ) : Type 0 where
@@ -32,9 +32,11 @@ pub record Holds (r : Record) (bases flags : List ℕ) (i : ℕ) (ls : List ℕ)
 -- what a reader and its tracks stand for
 abbrev pub Reads : Reader → List ℕ → List ℕ → State → Type 0
 Reads Reader.Start bases flags s = s ≡ start
+Reads Reader.StartHeld bases flags s = s ≡ startHeld
 Reads (Reader.Header i) bases flags s = s ≡ header i
 Reads (Reader.Fresh r) bases flags s = (i : ℕ) × (ls : List ℕ) × (s ≡ fresh i ls) × Holds r bases flags i ls
 Reads (Reader.Within r) bases flags s = (i : ℕ) × (ls : List ℕ) × (s ≡ within i ls) × Holds r bases flags i ls
+Reads (Reader.WithinHeld r) bases flags s = (i : ℕ) × (ls : List ℕ) × (s ≡ withinHeld i ls) × Holds r bases flags i ls
 Reads Reader.Ended bases flags s = s ≡ ended
 
 -- where a reader goes from one state

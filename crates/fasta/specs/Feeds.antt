@@ -50,9 +50,11 @@ feeding reader part bases flags other out = along (length part) part out (record
 -- what is left to do: read on, or write the text out where there is more to feed; stop after the report
 abbrev pub thenAfter : Reader → Bool → Then
 thenAfter Reader.Start more = pick more Then.Write Then.Read
+thenAfter Reader.StartHeld more = pick more Then.Write Then.Read
 thenAfter (Reader.Header i) more = pick more Then.Write Then.Read
 thenAfter (Reader.Fresh k) more = pick more Then.Write Then.Read
 thenAfter (Reader.Within k) more = pick more Then.Write Then.Read
+thenAfter (Reader.WithinHeld k) more = pick more Then.Write Then.Read
 thenAfter Reader.Ended more = Then.Stop
 
 -- what a call answers

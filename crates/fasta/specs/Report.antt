@@ -36,6 +36,12 @@ unfoldable pub lines : List ℕ → List (List ℕ)
 lines [] = []
 lines (b ∷ bs) = pick (eqb b 10) ([] ∷ lines bs) (longer b (lines bs))
 
+-- a line without its end: one CR, byte 13, directly before the LF or as the last byte of input belongs to the line end; a CR elsewhere does not
+unfoldable pub content : List ℕ → List ℕ
+content [] = []
+content (b ∷ []) = pick (eqb b 13) [] (b ∷ [])
+content (b ∷ c ∷ bs) = b ∷ content (c ∷ bs)
+
 -- a line starting `>` opens a record
 abbrev pub isHeader : List ℕ → Bool
 isHeader [] = false
@@ -86,5 +92,5 @@ table ([] ∷ ls) = table ls
 table ((b ∷ l) ∷ ls) = pick (eqb b 62) (rows 0 (records [] ls)) (refusedText ++ (10 ∷ []))
 
 unfoldable pub report : List ℕ → List ℕ
-unfolding lines table
-report input = heading ++ table (lines input)
+unfolding lines content table
+report input = heading ++ table (map content (lines input))

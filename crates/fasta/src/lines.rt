@@ -1,5 +1,7 @@
-// Where a line ends.
+// Where a line ends, and where its letters do.
 ghost use mathlib.Core.Path.{_≡_};
+ghost use lib.ListN.{length};
+ghost use Rattle.fasta.specs.Report.{content};
 ghost use Rattle.fasta.specs.Steps.{lineEnd};
 
 // The number of bytes before the first LF, or all of them.
@@ -14,4 +16,18 @@ pub(crate) fn line_end(part: &[u8]) -> usize
         i += 1;
     }
     i
+}
+
+// The number of bytes of a line's content: all of them, or all but the CR that ends it.
+pub(crate) fn content_length(line: &[u8]) -> usize
+    ensures { λ r. ⌜ r ≡ length (content (now (line .entry))) ⌝ }
+{
+    let size = line.len();
+    if size == 0 {
+        return 0;
+    }
+    if line[size - 1] == b'\r' {
+        return size - 1;
+    }
+    size
 }

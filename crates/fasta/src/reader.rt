@@ -2,9 +2,11 @@
 use crate::report::put_total;
 use crate::states::at_line;
 use crate::states::begin;
+use crate::states::begin_held;
 use crate::states::close;
 use crate::states::in_header;
 use crate::states::in_line;
+use crate::states::in_line_held;
 use rows::inner::puts::put_text;
 ghost use mathlib.Core.Path.{_≡_};
 ghost use lib.ListN.{length};
@@ -25,12 +27,15 @@ pub struct Record {
 }
 
 // Where the bytes read so far end: before any header, in a header line after so many records, in a record at the start of
-// a line or within one, or after the report: letters came before any header, or a feed has written the last lines.
+// a line or within one, or after the report: letters came before any header, or a feed has written the last lines. `Held` says that
+// a CR is the last of these bytes, and is not yet counted: it is a letter only if a byte other than LF follows.
 pub enum Reader {
     Start,
+    StartHeld,
     Header(u64),
     Fresh(Record),
     Within(Record),
+    WithinHeld(Record),
     Ended,
 }
 
@@ -94,9 +99,11 @@ pub fn step(
     }
     match reader {
         Reader::Start => begin(part, out),
+        Reader::StartHeld => begin_held(part, out),
         Reader::Header(number) => in_header(number, part),
         Reader::Fresh(kept) => at_line(kept, part, bases, flags, other, out),
         Reader::Within(kept) => in_line(kept, part, bases, flags),
+        Reader::WithinHeld(kept) => in_line_held(kept, part, bases, flags),
         Reader::Ended => Stepped {
             reader: Reader::Ended,
             used: part.len(),
@@ -105,7 +112,7 @@ pub fn step(
     }
 }
 
-// The end of the input: writes the last row and the total, and answers how many bytes.
+// The end of the input: writes the last row and the total, and answers how many bytes. A CR that is held was part of the last line's end.
 pub fn finish(
     reader: Reader,
     bases: &[u8; BASES],
@@ -121,10 +128,11 @@ pub fn finish(
         return 0;
     }
     match reader {
-        Reader::Start => put_total(0, out, 0),
+        Reader::Start | Reader::StartHeld => put_total(0, out, 0),
         Reader::Header(number) => close(Record { number, count: 0 }, bases, flags, other, out),
-        Reader::Fresh(kept) => close(kept, bases, flags, other, out),
-        Reader::Within(kept) => close(kept, bases, flags, other, out),
+        Reader::Fresh(kept) | Reader::Within(kept) | Reader::WithinHeld(kept) => {
+            close(kept, bases, flags, other, out)
+        }
         Reader::Ended => 0,
     }
 }

@@ -1,5 +1,6 @@
 // What the reader does in each of its states, with bytes to read and room to write.
 use crate::letters::add_letters;
+use crate::lines::content_length;
 use crate::lines::line_end;
 use crate::reader::BASES;
 use crate::reader::FLAGS;
@@ -14,8 +15,8 @@ ghost use mathlib.Core.Path.{_≡_};
 ghost use Prim.Native.Nat.{_≤_, _<_};
 ghost use lib.ListN.{length};
 ghost use Rattle.fasta.specs.Records.{closed, marked};
-ghost use Rattle.fasta.specs.Steps.{stepped, begun, inHeader, inLine, atLine};
-ghost use Rattle.fasta.specs.Buffers.{onto, lineTrack, trackAfter, otherAfter};
+ghost use Rattle.fasta.specs.Steps.{stepped, refusing, begun, begunHeld, inHeader, inLine, inLineHeld, atLine};
+ghost use Rattle.fasta.specs.Buffers.{onto, lineTrack, heldTrack, trackAfter, otherAfter};
 
 // Before any header.
 pub(crate) fn begin(part: &[u8], out: &mut [u8]) -> Stepped
@@ -32,6 +33,13 @@ pub(crate) fn begin(part: &[u8], out: &mut [u8]) -> Stepped
             wrote: 0,
         };
     }
+    if first == b'\r' {
+        return Stepped {
+            reader: Reader::StartHeld,
+            used: 1,
+            wrote: 0,
+        };
+    }
     if first == b'>' {
         return Stepped {
             reader: Reader::Header(0),
@@ -39,6 +47,32 @@ pub(crate) fn begin(part: &[u8], out: &mut [u8]) -> Stepped
             wrote: 0,
         };
     }
+    refuse(out)
+}
+
+// Before any header, after a CR.
+pub(crate) fn begin_held(part: &[u8], out: &mut [u8]) -> Stepped
+    requires { ⌜ 0 < length (now part) ⌝ }
+    requires { ⌜ 96 ≤ length (now out) ⌝ }
+    ensures says { λ r. ⌜ r ≡ stepped (begunHeld (now (part .entry))) ⌝ }
+    ensures out { λ _. ⌜ now (out .exit) ≡ onto (begunHeld (now (part .entry)) .written) (now (out .entry)) ⌝ }
+{
+    if part[0] != b'\n' {
+        return refuse(out);
+    }
+    Stepped {
+        reader: Reader::Start,
+        used: 1,
+        wrote: 0,
+    }
+}
+
+// A letter before any header: the report is over.
+fn refuse(out: &mut [u8]) -> Stepped
+    requires { ⌜ 96 ≤ length (now out) ⌝ }
+    ensures says { λ r. ⌜ r ≡ stepped refusing ⌝ }
+    ensures out { λ _. ⌜ now (out .exit) ≡ onto (refusing .written) (now (out .entry)) ⌝ }
+{
     let wrote = put_text(b"refused\n", out, 0);
     Stepped {
         reader: Reader::Ended,
@@ -52,16 +86,16 @@ pub(crate) fn in_header(number: u64, part: &[u8]) -> Stepped
     ensures { λ r. ⌜ r ≡ stepped (inHeader number (now (part .entry))) ⌝ }
 {
     let end = line_end(part);
-    if end == part.len() {
+    if end < part.len() {
         return Stepped {
-            reader: Reader::Header(number),
-            used: end,
+            reader: Reader::Fresh(Record { number, count: 0 }),
+            used: end + 1,
             wrote: 0,
         };
     }
     Stepped {
-        reader: Reader::Fresh(Record { number, count: 0 }),
-        used: end + 1,
+        reader: Reader::Header(number),
+        used: end,
         wrote: 0,
     }
 }
@@ -78,19 +112,50 @@ pub(crate) fn in_line(
     ensures flags { λ _. ⌜ now (flags .exit) ≡ lineTrack 1 kept (now (part .entry)) (now (flags .entry)) ⌝ }
 {
     let end = line_end(part);
-    let longer = add_letters(kept, &part[..end], bases, flags);
-    if end == part.len() {
+    let letters = content_length(&part[..end]);
+    let longer = add_letters(kept, &part[..letters], bases, flags);
+    if end < part.len() {
         return Stepped {
-            reader: Reader::Within(longer),
+            reader: Reader::Fresh(longer),
+            used: end + 1,
+            wrote: 0,
+        };
+    }
+    if letters < end {
+        return Stepped {
+            reader: Reader::WithinHeld(longer),
             used: end,
             wrote: 0,
         };
     }
     Stepped {
-        reader: Reader::Fresh(longer),
-        used: end + 1,
+        reader: Reader::Within(longer),
+        used: end,
         wrote: 0,
     }
+}
+
+// In a record, within a line, after a CR.
+pub(crate) fn in_line_held(
+    kept: Record,
+    part: &[u8],
+    bases: &mut [u8; BASES],
+    flags: &mut [u8; FLAGS],
+) -> Stepped
+    requires { ⌜ 0 < length (now part) ⌝ }
+    ensures says { λ r. ⌜ r ≡ stepped (inLineHeld kept (now (part .entry))) ⌝ }
+    ensures bases { λ _. ⌜ now (bases .exit) ≡ heldTrack 2 kept (now (part .entry)) (now (bases .entry)) ⌝ }
+    ensures flags { λ _. ⌜ now (flags .exit) ≡ heldTrack 1 kept (now (part .entry)) (now (flags .entry)) ⌝ }
+{
+    if part[0] == b'\n' {
+        return Stepped {
+            reader: Reader::Fresh(kept),
+            used: 1,
+            wrote: 0,
+        };
+    }
+    let longer = add_letters(kept, b"\r", bases, flags);
+    in_line(longer, part, bases, flags)
 }
 
 // In a record, at the start of a line.

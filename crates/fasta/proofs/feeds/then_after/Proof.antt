@@ -15,12 +15,14 @@ use Rattle.fasta.proofs.feeds.then_after.Statement.{statement}
 use Rattle.fasta.proofs.feeds.then_after.Tie as tie
 
 -- the variants but the last
-going : (reader : Reader) (more : Bool) → OneOf (0 ∷ 1 ∷ 2 ∷ 3 ∷ []) (tagOf the-type reader) → thenAfter reader more ≡ pick more Then.Write Then.Read
+going : (reader : Reader) (more : Bool) → OneOf (0 ∷ 1 ∷ 2 ∷ 3 ∷ 4 ∷ 5 ∷ []) (tagOf the-type reader) → thenAfter reader more ≡ pick more Then.Write Then.Read
 going Reader.Start more h = refl
+going Reader.StartHeld more h = refl
 going (Reader.Header i) more h = refl
 going (Reader.Fresh k) more h = refl
 going (Reader.Within k) more h = refl
-going Reader.Ended more h = absurd (miss (0 ∷ 1 ∷ 2 ∷ 3 ∷ []) 4 tt h)
+going (Reader.WithinHeld k) more h = refl
+going Reader.Ended more h = absurd (miss (0 ∷ 1 ∷ 2 ∷ 3 ∷ 4 ∷ 5 ∷ []) 6 tt h)
 
 enum-told : tie.Need-enum-told
 enum-told c = search needs

@@ -1,11 +1,7 @@
 -- The first byte decides. Assumes nothing.
-use mathlib.Core.Path.{ap}
-use Prim.Native.Nat.{ℕ}
 use borrow.Author.Needs.{needs}
 use borrow.Author.Tests.{eq-eqb, ne-eqb}
 use Rattle.fasta.specs.Steps.{begun}
-use Rattle.fasta.specs.declared.reader.Reader.the-variants as Reader
-use Rattle.fasta.proofs.FrontLaws.{put-place, put-onto}
 use Rattle.fasta.proofs.states.begin.Statement.{statement}
 use Rattle.fasta.proofs.states.begin.Tie as tie
 
@@ -19,27 +15,33 @@ returns c = (rw (eq-eqb _ 10 (c .if1 .taken)), rw (eq-eqb _ 10 (c .if1 .taken)))
 returns-2 : tie.Need-returns-2
 unfolding begun
 returns-2 c = (
-  rw (ne-eqb _ 10 (c .before .if1 .left), eq-eqb _ 62 (c .if2 .taken)),
-  rw (ne-eqb _ 10 (c .before .if1 .left), eq-eqb _ 62 (c .if2 .taken)),
+  rw (ne-eqb _ 10 (c .before .if1 .left), eq-eqb _ 13 (c .if2 .taken)),
+  rw (ne-eqb _ 10 (c .before .if1 .left), eq-eqb _ 13 (c .if2 .taken)),
 )
-
-slice-aggregate-put-text : tie.Need-slice-aggregate-put-text
-slice-aggregate-put-text c = search needs
-
-put-text-requires : tie.Need-put-text-requires
-put-text-requires c κs = search needs
-
-same-length : tie.Need-same-length
-same-length c = search needs
 
 returns-3 : tie.Need-returns-3
 unfolding begun
 returns-3 c =
+    let e = c .before in (
+      rw (ne-eqb _ 10 (e .before .if1 .left), ne-eqb _ 13 (e .if2 .left), eq-eqb _ 62 (c .if3 .taken)),
+      rw (ne-eqb _ 10 (e .before .if1 .left), ne-eqb _ 13 (e .if2 .left), eq-eqb _ 62 (c .if3 .taken)),
+    )
+
+refuse-requires : tie.Need-refuse-requires
+refuse-requires c κs = search needs
+
+same-length : tie.Need-same-length
+same-length c = search needs
+
+returns-4 : tie.Need-returns-4
+unfolding begun
+returns-4 c =
     let k = c .before .before in
-    let e = k .before .before .before in
-    let p = k .put-text .ensures in (
-      rw (ne-eqb _ 10 (e .before .if1 .left), ne-eqb _ 62 (e .if2 .left)) (ap (λ (n : ℕ). record { reader = Reader.Ended; used = 1; wrote = n }) (put-place p)),
-      rw (ne-eqb _ 10 (e .before .if1 .left), ne-eqb _ 62 (e .if2 .left)) (put-onto p (search needs)),
+    let f = k .before .before in
+    let e = f .before in
+    let p = k .refuse .ensures in (
+      rw (ne-eqb _ 10 (e .before .if1 .left), ne-eqb _ 13 (e .if2 .left), ne-eqb _ 62 (f .if3 .left)) (p .0),
+      rw (ne-eqb _ 10 (e .before .if1 .left), ne-eqb _ 13 (e .if2 .left), ne-eqb _ 62 (f .if3 .left)) (p .1),
     )
 
 pub begin-spec : {M : Type 1} → statement M
@@ -49,7 +51,7 @@ begin-spec =
     shared-slice-read-first
     returns
     returns-2
-    slice-aggregate-put-text
-    put-text-requires
+    returns-3
+    refuse-requires
     same-length
-    returns-3)
+    returns-4)
