@@ -1,0 +1,12 @@
+pub mod SumLaws
+pub mod BlockLaws
+pub mod CallLaws
+pub mod CountsRight
+pub mod Counted
+pub mod HistoryLaws
+pub mod History
+pub mod AnswerLaws
+pub mod Lowest
+pub mod Viewed
+pub mod Decided
+pub mod Called
