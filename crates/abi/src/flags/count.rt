@@ -99,9 +99,9 @@ pub extern "C" fn tsiv_flags_count(
     entries: &[u16],
     start: usize,
     end: usize,
-    to: &mut u64,
+    total: &mut u64,
 ) -> u32
-    ensures { λ r. ⌜ said r (now (to .exit)) ≡ queried (now (buffer .entry)) len (now (entries .entry)) start end ⌝ }
+    ensures { λ r. ⌜ said r (now (total .exit)) ≡ queried (now (buffer .entry)) len (now (entries .entry)) start end ⌝ }
 {
-    count::count(buffer, len, entries, start, end, to)
+    count::count(buffer, len, entries, start, end, total)
 }

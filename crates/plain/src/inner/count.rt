@@ -115,9 +115,9 @@ pub fn count(
     entries: &[u16],
     start: usize,
     end: usize,
-    to: &mut u64,
+    total: &mut u64,
 ) -> u32
-    ensures { λ r. ⌜ said r (now (to .exit)) ≡ queried (now (buffer .entry)) len (now (entries .entry)) start end ⌝ }
+    ensures { λ r. ⌜ said r (now (total .exit)) ≡ queried (now (buffer .entry)) len (now (entries .entry)) start end ⌝ }
 {
     give::count(
         flags::count(
@@ -127,6 +127,6 @@ pub fn count(
             Chars::new(start),
             Chars::new(end),
         ),
-        to,
+        total,
     )
 }
