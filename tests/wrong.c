@@ -100,8 +100,8 @@ OVER(flags_push_ascii_counted, uint8_t *buffer, size_t size, size_t *len, uint16
      const uint8_t *letters, size_t letters_size, size_t *start, size_t *end)
 {
     size_t b = *len / 256, kept = *len % 256 && b < entries_size ? entries[b] : 65536;
-    uint32_t no = REAL(flags_push_ascii_counted)(buffer, size, len, entries, entries_size, letters, letters_size, start,
-                                                 end);
+    uint32_t no =
+        REAL(flags_push_ascii_counted)(buffer, size, len, entries, entries_size, letters, letters_size, start, end);
     if (kept < 65536)
         entries[b] = (uint16_t)kept;
     return no;
@@ -110,7 +110,8 @@ OVER(flags_push_ascii_counted, uint8_t *buffer, size_t size, size_t *len, uint16
 OVER(flags_push_ascii_counted, uint8_t *buffer, size_t size, size_t *len, uint16_t *entries, size_t entries_size,
      const uint8_t *letters, size_t letters_size, size_t *start, size_t *end)
 {
-    size_t few = entries_size && entries_size == TSIV_COUNTS_ROOM(*len + letters_size) ? entries_size - 1 : entries_size;
+    size_t few =
+        entries_size && entries_size == TSIV_COUNTS_ROOM(*len + letters_size) ? entries_size - 1 : entries_size;
     return REAL(flags_push_ascii_counted)(buffer, size, len, entries, few, letters, letters_size, start, end);
 }
 #elif defined COUNTS_REFUSED
