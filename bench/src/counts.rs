@@ -42,7 +42,7 @@ fn pushes(text: &[u8], each: usize) {
             Ok::<_, Refusal>(store.len())
         },
         |(buffer, entries, plain), a, b| {
-            let right = text
+            let right = text[..LETTERS / each * each]
                 .chunks(256)
                 .zip(entries)
                 .all(|(block, &entry)| set(block) == entry.into());

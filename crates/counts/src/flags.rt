@@ -75,7 +75,9 @@ pub fn push_seq(
     if let Outcome::Refused(refusal) = outcome {
         return Pushed::Refused { refusal, len };
     }
-    let end = seq_start(1, len, offset) + count.count();
+    let at = len.count();
+    let start = seq_start(1, len, offset);
+    let end = start + count.count();
     if entries.len() < blocks_of(end) {
         return Pushed::Refused {
             refusal: Refusal::NoRoom,
@@ -83,7 +85,7 @@ pub fn push_seq(
         };
     }
     let pushed = stores::flags::push_seq(buffer, len, bytes, offset, count);
-    recount(buffer, end, entries, len.count(), end);
+    recount(buffer, end, entries, at, end);
     pushed
 }
 

@@ -9,7 +9,7 @@ use codes::units::Chars;
 use fields::inner::flags::set_flags;
 use stores::inner::outcomes::end_outcome;
 ghost use mathlib.Core.Path.{_≡_};
-ghost use Prim.Native.Nat.{_+_, _^_, _≤_, _<_, max};
+ghost use Prim.Native.Nat.{_+_, _-_, _*_, _^_, _≤_, max};
 ghost use lib.ListN.{length};
 ghost use lib.Seq.{slice};
 ghost use Rattle.codes.specs.Codes.{chars, up, trailing};
@@ -34,10 +34,10 @@ pub(crate) fn query_outcome(
     refuse_if(starts, short, Refusal::NoRoom)
 }
 
-fn wide(x: u16) -> u64
+fn wide(x: u16) -> u32
     ensures { λ r. ⌜ r ≡ x ⌝ }
 {
-    x as u64
+    x as u32
 }
 
 fn larger(m: usize, n: usize) -> usize
@@ -46,19 +46,36 @@ fn larger(m: usize, n: usize) -> usize
     if m < n { n } else { m }
 }
 
+// The entries whose sum fits 32 bits, whatever they are.
+const MANY: usize = 0x1_0000;
+
+// The sum of the entries from entry `from` up to entry `to`, at most so many.
+fn sum_many(entries: &[u16], from: usize, to: usize) -> u32
+    requires { ⌜ (from ≤ to) × (to ≤ length (now entries)) × (to ≤ from + 2 ^ 16) ⌝ }
+    ensures { λ r. ⌜ (r ≡ sum (slice from to (now (entries .entry)))) × (r ≤ 0xffff * (to - from)) ⌝ }
+{
+    let mut total: u32 = 0;
+    let mut b = from;
+    while b < to {
+        total += wide(entries[b]);
+        b += 1;
+    }
+    total
+}
+
 // The sum of the entries from entry `from` up to entry `to`.
 fn sum_run(entries: &[u16], from: usize, to: usize) -> u64
     requires { ⌜ (from ≤ to) × (to ≤ length (now entries)) × (to ≤ 2 ^ 32) ⌝ }
-    ensures { λ r. ⌜ r ≡ sum (slice from to (now (entries .entry))) ⌝ }
-    ensures { λ r. ⌜ r < 2 ^ 48 ⌝ }
+    ensures { λ r. ⌜ (r ≡ sum (slice from to (now (entries .entry)))) × (r ≤ 0xffff * (to - from)) ⌝ }
 {
-    let mut sum: u64 = 0;
+    let mut total: u64 = 0;
     let mut b = from;
     while b < to {
-        sum += wide(entries[b]);
-        b += 1;
+        let next = smaller(to, b + MANY);
+        total += sum_many(entries, b, next) as u64;
+        b = next;
     }
-    sum
+    total
 }
 
 // The set flags from character `start` up to character `end` of a track of len characters.

@@ -35,10 +35,10 @@ module _ (c : tie.After-enum-told) where
       ltb-false (length (s .args .buffer .now)) (up 1 (s .args .len .0) + trailing)
       (plain-passed (s .args .buffer .now) (s .args .len .0) (pushSeq (s .args .bytes .now) (s .args .offset .0) (s .args .count .0)) (judged o) (c .enum-told .given .1) .1 .1 .0)
 
-end-is : (c : tie.After-count) → let a = s (c .before .before) .args in c .before .seq-start .result + c .count .result ≡ seqStart 1 (a .len .0) (a .offset .0) + a .count .0
-end-is c = ap₂ (λ (x y : ℕ). x + y) (c .before .seq-start .ensures) (c .count .ensures)
+end-is : (c : tie.After-count2) → let a = s (c .before .before .before) .args in c .before .seq-start .result + c .count2 .result ≡ seqStart 1 (a .len .0) (a .offset .0) + a .count .0
+end-is c = ap₂ (λ (x y : ℕ). x + y) (c .before .seq-start .ensures) (c .count2 .ensures)
 
-blocks-are : (c : tie.After-blocks-of) → let a = s (c .before .before .before) .args in c .blocks-of .result ≡ blocks (seqStart 1 (a .len .0) (a .offset .0) + a .count .0)
+blocks-are : (c : tie.After-blocks-of) → let a = s (c .before .before .before .before) .args in c .blocks-of .result ≡ blocks (seqStart 1 (a .len .0) (a .offset .0) + a .count .0)
 blocks-are c = c .blocks-of .ensures ∙ ap blocks (end-is (c .before))
 
 seq-outcome-requires : tie.Need-seq-outcome-requires
@@ -56,16 +56,18 @@ returns c =
 enum-told : tie.Need-enum-told
 enum-told c = search needs
 
-seq-start-requires : tie.Need-seq-start-requires
-seq-start-requires c κs =
-    (search needs, omega (arith, room c .0, sound c))
-
 count-requires : tie.Need-count-requires
 count-requires c κs = search needs
 
+seq-start-requires : tie.Need-seq-start-requires
+seq-start-requires c κs = (search needs, omega (arith, room (c .before) .0, sound (c .before)))
+
+count-requires-2 : tie.Need-count-requires-2
+count-requires-2 c κs = search needs
+
 add-end : tie.Need-add-end
 add-end c =
-    let k = c .before .before in
+    let k = c .before .before .before in
     omega (arith, end-is c, room k .0, room k .1)
 
 blocks-of-requires : tie.Need-blocks-of-requires
@@ -73,7 +75,7 @@ blocks-of-requires c κs = search needs
 
 returns-2 : tie.Need-returns-2
 returns-2 c =
-    let k = c .before .before .before .before in
+    let k = c .before .before .before .before .before in
     let a = s k .args in
     left-few (a .buffer .now) (a .len .0) (a .entries .now) (pushSeq (a .bytes .now) (a .offset .0) (a .count .0)) (judged (o k)) (k .enum-told .given .1)
     (omega (arith, c .if1 .taken, blocks-are (c .before)))
@@ -81,16 +83,13 @@ returns-2 c =
 push-seq-requires : tie.Need-push-seq-requires
 push-seq-requires c κs = search needs
 
-count-requires-2 : tie.Need-count-requires-2
-count-requires-2 c κs = search needs
-
 recount-requires : tie.Need-recount-requires
 recount-requires c κs =
-    let d = c .before .before .before .before .before in
+    let d = c .before .before .before .before in
     let e = d .before .before in
     let n = e .before .before in
-    let k = n .before .before in
-    omega (arith, d .push-seq .kept .0, room k .0, room k .1, end-is n, c .count2 .ensures, e .if1 .left, e .before .blocks-of .ensures)
+    let k = n .before .before .before in
+    omega (arith, d .push-seq .kept .0, room k .0, room k .1, end-is n, n .before .before .count .ensures, e .if1 .left, e .before .blocks-of .ensures)
 
 same-length : tie.Need-same-length
 same-length c = search needs
@@ -101,17 +100,17 @@ same-length-2 c = search needs
 returns-3 : tie.Need-returns-3
 returns-3 c =
     let r = c .before .before in
-    let d = r .before .before .before .before .before .before in
+    let d = r .before .before .before .before .before in
     let e = d .before .before in
     let n = e .before .before in
-    let k = n .before .before in
+    let k = n .before .before .before in
     let a = s k .args in
     let bs = a .buffer .now in
     let vs = a .bytes .now in
     left-done bs (a .len .0) (a .entries .now) (pushSeq vs (a .offset .0) (a .count .0)) (judged (o k)) (k .enum-told .given .1) (omega (arith, e .if1 .left, blocks-are (e .before)))
     (d .push-seq .ensures)
     (r .recount .ensures
-    ∙ (λ i. recounted (a .entries .now) (r .before .count2 .ensures i, end-is n i) (chars 1 (d .push-seq .ensures .1 i) 0 (end-is n i)))
+    ∙ (λ i. recounted (a .entries .now) (n .before .before .count .ensures i, end-is n i) (chars 1 (d .push-seq .ensures .1 i) 0 (end-is n i)))
     ∙ touched-seq (a .entries .now) (a .len .0) (newFlags bs (a .len .0) (pushSeq vs (a .offset .0) (a .count .0))) vs (a .offset .0) (a .count .0))
 
 pub push-seq-spec : {M : Type 1} → statement M
@@ -122,13 +121,13 @@ push-seq-spec =
     enum-known-outcome
     returns
     enum-told
-    seq-start-requires
     count-requires
+    seq-start-requires
+    count-requires-2
     add-end
     blocks-of-requires
     returns-2
     push-seq-requires
-    count-requires-2
     recount-requires
     same-length
     same-length-2
