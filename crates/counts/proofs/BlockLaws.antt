@@ -1,17 +1,17 @@
 -- The laws of blocks: a block of a track by its characters, which blocks a range meets, and entries counted afresh.
 -- Assumes nothing.
-use mathlib.Core.Bool.{true, false, _&&_}
+use mathlib.Core.Bool.{true, false}
 use mathlib.Core.List.{List}
-use mathlib.Core.Path.{_≡_, refl, sym, ap, _∙_}
+use mathlib.Core.Path.{_≡_, sym, ap, _∙_}
 use Prim.Native.Nat.{ℕ, _+_, _-_, _*_, _/_, _≤_, _<_, min, max}
 use native.Mathlib.Nat.{zero-add}
 use native.Mathlib.Omega.{arith}
 use borrow.Author.Tests.{lt-ltb, le-ltb, ltb-false}
 use lib.ListN.{length, getD}
 use lib.Seq.{ext-getD}
-use Rattle.codes.specs.Codes.{chars, tab}
+use Rattle.codes.specs.Codes.{chars}
 use Rattle.codes.specs.Made.{Made}
-use Rattle.codes.proofs.CharLaws.{length-chars, chars-slice}
+use Rattle.codes.proofs.CharLaws.{chars-slice}
 use Rattle.codes.proofs.TabLaws.{length-tab, getD-tab}
 use Rattle.codes.proofs.WidthLaws.{below-or}
 use Rattle.fields.specs.Flags.{setFlags}

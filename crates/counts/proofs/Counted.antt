@@ -1,15 +1,14 @@
 -- With right entries the query is the plain count of its range: the whole blocks' entries are the counts of their flags, and the ends are counted.
 -- Assumes nothing.
-use mathlib.Core.List.{List, []}
-use mathlib.Core.Path.{_≡_, refl, sym, ap, ap₂, _∙_}
-use Prim.Native.Nat.{ℕ, zero, suc, _+_, _-_, _*_, _/_, _≤_, _<_, min, max}
+use mathlib.Core.List.{List}
+use mathlib.Core.Path.{_≡_, sym, ap, ap₂, _∙_}
+use Prim.Native.Nat.{ℕ, zero, suc, _+_, _-_, _*_, _/_, _≤_, min}
 use native.Mathlib.Omega.{arith}
-use lib.ListN.{length, getD}
+use lib.ListN.{length}
 use lib.Seq.{slice}
 use Rattle.codes.proofs.WidthLaws.{below-or}
 use Rattle.fields.specs.Flags.{sum, setFlags}
-use Rattle.fields.proofs.FlagLaws.{sum-append}
-use Rattle.counts.specs.Blocks.{size, blocks, block, wholeFrom, wholeTo, rangeCount}
+use Rattle.counts.specs.Blocks.{size, wholeFrom, wholeTo, rangeCount}
 use Rattle.counts.specs.History.{Right}
 use Rattle.counts.proofs.SumLaws.{sum-more, sum-none, sum-parts}
 

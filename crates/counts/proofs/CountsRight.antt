@@ -2,21 +2,17 @@
 -- has the flags that it had, and one that it touches is counted afresh.
 -- Assumes nothing.
 use mathlib.Core.Bool.{Bool, true, false}
-use mathlib.Core.List.{List, [], _∷_, map}
+use mathlib.Core.List.{List, [], _∷_}
 use mathlib.Core.Path.{_≡_, refl, sym, ap, _∙_, subst}
-use Prim.Native.Nat.{ℕ, _+_, _-_, _*_, _≤_, _<_, min, zero-le}
-use native.Mathlib.Nat.{zero-add}
+use Prim.Native.Nat.{ℕ, _+_, _-_, _*_, _≤_, _<_, min}
 use native.Mathlib.Omega.{arith}
 use borrow.Author.Tests.{ltb-false}
 use lib.ListN.{length, getD, length-map}
-use Rattle.codes.specs.Codes.{charAt, chars, code}
-use Rattle.codes.specs.declared.refusals.Outcome.{Outcome}
-use Rattle.codes.specs.declared.refusals.Outcome.the-variants.{Done, Refused}
-use Rattle.codes.specs.declared.refusals.Refusal.{Refusal}
+use Rattle.codes.specs.Codes.{chars, code}
+use Rattle.codes.specs.declared.refusals.Outcome.the-variants.{Done}
 use Rattle.codes.proofs.CharLaws.{length-chars, chars-ext}
 use Rattle.codes.proofs.WidthLaws.{width-1}
 use Rattle.fields.specs.Flags.{setFlags}
-use Rattle.runs.specs.Runs.{seqStart}
 use Rattle.runs.proofs.SeqLaws.{seq-end}
 use Rattle.stores.specs.Changes.{Overwrites}
 use Rattle.stores.specs.History.{flagsOf}

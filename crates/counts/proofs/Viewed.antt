@@ -2,7 +2,7 @@
 -- mod 8 get equal answers and leave equal buffers and equal entries.
 -- Assumes nothing.
 use mathlib.Core.List.{List, [], _∷_, _++_}
-use mathlib.Core.Path.{_≡_, sym, ap, _∙_}
+use mathlib.Core.Path.{_≡_, sym, _∙_}
 use Prim.Native.Nat.{ℕ, _+_, _-_, _*_, _%_}
 use lib.ListN.{length, replicate}
 use Rattle.codes.specs.Codes.{per, up, chars}

@@ -1,4 +1,4 @@
--- Blocks of 256 characters: which of them an edit of a store touches, and the counts of their set flags, before and after it and over a range.
+-- Blocks of 256 characters: which of them an edit of a store touches, the counts of their set flags after it, and a range counted by them.
 -- Assumes nothing.
 use mathlib.Core.Bool.{Bool, _&&_}
 use mathlib.Core.List.{List}
@@ -14,7 +14,7 @@ use Rattle.stores.specs.Stores.{Edit, still, from, over}
 abbrev pub size : ℕ
 size = 256
 
--- the blocks of n characters, the last one partial
+-- how many blocks n characters have, the last one partial
 abbrev pub blocks : ℕ → ℕ
 blocks n = (n + (size - 1)) / size
 
@@ -22,7 +22,7 @@ blocks n = (n + (size - 1)) / size
 abbrev pub block : List ℕ → ℕ → List ℕ
 block flags b = slice (b * size) (b * size + size) flags
 
--- the characters that an edit of len characters writes or cuts, gaps among them: from the first up to the one before which they stop
+-- the characters that an edit of a store of len touches, those that it writes, gaps among them, or cuts: the first, and the one before which they stop
 abbrev pub touched : ℕ → Edit → ℕ × ℕ
 touched len still = (0, 0)
 touched len (from at cs) = (at, max len (at + length cs))
@@ -32,13 +32,13 @@ touched len (over at cs) = (at, at + length cs)
 abbrev pub meets : ℕ × ℕ → ℕ → Bool
 meets range b = ltb (max (range .0) (b * size)) (min (range .1) (b * size + size))
 
--- the entries that the flags leave behind a change of a range: of the blocks of the flags those that have a character of it are counted afresh;
--- the others, and entries behind the last block, keep their numbers
+-- the entries after an edit that touches a range and leaves these flags: of their blocks, those that have a character of the range are counted
+-- afresh; the others, and entries behind the last block, keep their numbers
 unfoldable pub recounted : List ℕ → ℕ × ℕ → List ℕ → List ℕ
 recounted entries range flags =
     tab (length entries) (λ b. pick (ltb b (blocks (length flags)) && meets range b) (setFlags (block flags b)) (getD entries b 0))
 
--- the whole blocks in a range: the first, and the one before which they stop
+-- the whole blocks in a range: the first from its start on, and the one before which they stop
 abbrev pub wholeFrom : ℕ → ℕ
 wholeFrom start = blocks start
 

@@ -20,12 +20,12 @@ countedTests m len n call = tests 1 m len call ++ tooFew n (span 1 len call .2) 
 unfoldable pub countedOutcome : ℕ → ℕ → ℕ → Call → Outcome
 countedOutcome m len n call = first (countedTests m len n call)
 
--- done, the call answers what the plain call does
+-- done, the call answers what the plain call does; refused, zeros and the old length
 unfoldable pub countedAnswer : ℕ → ℕ → ℕ → Call → Answer (ℕ × ℕ × ℕ)
 unfolding countedOutcome
 countedAnswer m len n call = answer (countedOutcome m len n call) (answered 1 m len call .values) (0, 0, oldLength len call)
 
--- and leaves the buffer that the plain call leaves
+-- the buffer after a call: done, what the plain call leaves
 unfoldable pub bytesAfter : List ℕ → ℕ → ℕ → Call → List ℕ
 unfolding countedOutcome
 bytesAfter bs len n call = ifDone (countedOutcome (length bs) len n call) (after 1 bs len call) bs
@@ -34,7 +34,7 @@ bytesAfter bs len n call = ifDone (countedOutcome (length bs) len n call) (after
 abbrev pub newFlags : List ℕ → ℕ → Call → List ℕ
 newFlags bs len call = chars 1 (after 1 bs len call) 0 (span 1 len call .2)
 
--- the entries after a call: those of the blocks that it touches counted afresh
+-- the entries after a call: done, those of the blocks that it touches counted afresh
 unfoldable pub entriesAfter : List ℕ → ℕ → List ℕ → Call → List ℕ
 unfolding countedOutcome
 entriesAfter bs len entries call =

@@ -75,7 +75,7 @@ pub fn push_seq(
     if let Outcome::Refused(refusal) = outcome {
         return Pushed::Refused { refusal, len };
     }
-    let at = len.count();
+    let old = len.count();
     let start = seq_start(1, len, offset);
     let end = start + count.count();
     if entries.len() < blocks_of(end) {
@@ -85,7 +85,7 @@ pub fn push_seq(
         };
     }
     let pushed = stores::flags::push_seq(buffer, len, bytes, offset, count);
-    recount(buffer, end, entries, at, end);
+    recount(buffer, end, entries, old, end);
     pushed
 }
 

@@ -12,7 +12,8 @@ pub extern "C" fn tsiv_flags_clear_counted(
     len: &mut usize,
     entries: &mut [u16],
 ) -> u32
-    ensures says { λ r. ⌜ said r (0, 0, now (len .exit)) ≡ countedAnswer (length (now (buffer .entry))) 0 (length (now (entries .entry))) Stores.clear ⌝ }
+    ensures says { λ r. ⌜ said r (0, 0, now (len .exit))
+        ≡ countedAnswer (length (now (buffer .entry))) 0 (length (now (entries .entry))) Stores.clear ⌝ }
     ensures bytes { λ _. ⌜ now (buffer .exit) ≡ bytesAfter (now (buffer .entry)) 0 (length (now (entries .entry))) Stores.clear ⌝ }
     ensures entries { λ _. ⌜ now (entries .exit) ≡ entriesAfter (now (buffer .entry)) 0 (now (entries .entry)) Stores.clear ⌝ }
 {
@@ -28,8 +29,8 @@ pub extern "C" fn tsiv_flags_push_ascii_counted(
     start: &mut usize,
     end: &mut usize,
 ) -> u32
-    ensures says { λ r. ⌜ said r (now (start .exit), now (end .exit), now (len .exit)) ≡ countedAnswer (length (now (buffer .entry)))
-        (now (len .entry)) (length (now (entries .entry))) (Stores.pushAscii (now (letters .entry))) ⌝ }
+    ensures says { λ r. ⌜ said r (now (start .exit), now (end .exit), now (len .exit))
+        ≡ countedAnswer (length (now (buffer .entry))) (now (len .entry)) (length (now (entries .entry))) (Stores.pushAscii (now (letters .entry))) ⌝ }
     ensures bytes { λ _. ⌜ now (buffer .exit)
         ≡ bytesAfter (now (buffer .entry)) (now (len .entry)) (length (now (entries .entry))) (Stores.pushAscii (now (letters .entry))) ⌝ }
     ensures entries { λ _. ⌜ now (entries .exit)
@@ -49,8 +50,8 @@ pub extern "C" fn tsiv_flags_push_seq_counted(
     start: &mut usize,
     end: &mut usize,
 ) -> u32
-    ensures says { λ r. ⌜ said r (now (start .exit), now (end .exit), now (len .exit)) ≡ countedAnswer (length (now (buffer .entry)))
-        (now (len .entry)) (length (now (entries .entry))) (Stores.pushSeq (now (bytes .entry)) offset count) ⌝ }
+    ensures says { λ r. ⌜ said r (now (start .exit), now (end .exit), now (len .exit))
+        ≡ countedAnswer (length (now (buffer .entry))) (now (len .entry)) (length (now (entries .entry))) (Stores.pushSeq (now (bytes .entry)) offset count) ⌝ }
     ensures bytes { λ _. ⌜ now (buffer .exit)
         ≡ bytesAfter (now (buffer .entry)) (now (len .entry)) (length (now (entries .entry))) (Stores.pushSeq (now (bytes .entry)) offset count) ⌝ }
     ensures entries { λ _. ⌜ now (entries .exit)
@@ -67,8 +68,8 @@ pub extern "C" fn tsiv_flags_overwrite_counted(
     start: usize,
     letters: &[u8],
 ) -> u32
-    ensures says { λ r. ⌜ said r (0, 0, now (len .exit)) ≡ countedAnswer (length (now (buffer .entry)))
-        (now (len .entry)) (length (now (entries .entry))) (Stores.overwrite start (now (letters .entry))) ⌝ }
+    ensures says { λ r. ⌜ said r (0, 0, now (len .exit))
+        ≡ countedAnswer (length (now (buffer .entry))) (now (len .entry)) (length (now (entries .entry))) (Stores.overwrite start (now (letters .entry))) ⌝ }
     ensures bytes { λ _. ⌜ now (buffer .exit)
         ≡ bytesAfter (now (buffer .entry)) (now (len .entry)) (length (now (entries .entry))) (Stores.overwrite start (now (letters .entry))) ⌝ }
     ensures entries { λ _. ⌜ now (entries .exit)

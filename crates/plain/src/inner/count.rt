@@ -9,7 +9,8 @@ ghost use Rattle.given.specs.Face.{said};
 ghost use Rattle.stores.specs.Stores as Stores;
 
 pub fn clear(buffer: &mut [u8], len: &mut usize, entries: &mut [u16]) -> u32
-    ensures says { λ r. ⌜ said r (0, 0, now (len .exit)) ≡ countedAnswer (length (now (buffer .entry))) 0 (length (now (entries .entry))) Stores.clear ⌝ }
+    ensures says { λ r. ⌜ said r (0, 0, now (len .exit))
+        ≡ countedAnswer (length (now (buffer .entry))) 0 (length (now (entries .entry))) Stores.clear ⌝ }
     ensures bytes { λ _. ⌜ now (buffer .exit) ≡ bytesAfter (now (buffer .entry)) 0 (length (now (entries .entry))) Stores.clear ⌝ }
     ensures entries { λ _. ⌜ now (entries .exit) ≡ entriesAfter (now (buffer .entry)) 0 (now (entries .entry)) Stores.clear ⌝ }
 {
@@ -24,8 +25,8 @@ pub fn push_ascii(
     start: &mut usize,
     end: &mut usize,
 ) -> u32
-    ensures says { λ r. ⌜ said r (now (start .exit), now (end .exit), now (len .exit)) ≡ countedAnswer (length (now (buffer .entry)))
-        (now (len .entry)) (length (now (entries .entry))) (Stores.pushAscii (now (letters .entry))) ⌝ }
+    ensures says { λ r. ⌜ said r (now (start .exit), now (end .exit), now (len .exit))
+        ≡ countedAnswer (length (now (buffer .entry))) (now (len .entry)) (length (now (entries .entry))) (Stores.pushAscii (now (letters .entry))) ⌝ }
     ensures bytes { λ _. ⌜ now (buffer .exit)
         ≡ bytesAfter (now (buffer .entry)) (now (len .entry)) (length (now (entries .entry))) (Stores.pushAscii (now (letters .entry))) ⌝ }
     ensures entries { λ _. ⌜ now (entries .exit)
@@ -49,8 +50,8 @@ pub fn push_seq(
     start: &mut usize,
     end: &mut usize,
 ) -> u32
-    ensures says { λ r. ⌜ said r (now (start .exit), now (end .exit), now (len .exit)) ≡ countedAnswer (length (now (buffer .entry)))
-        (now (len .entry)) (length (now (entries .entry))) (Stores.pushSeq (now (bytes .entry)) offset count) ⌝ }
+    ensures says { λ r. ⌜ said r (now (start .exit), now (end .exit), now (len .exit))
+        ≡ countedAnswer (length (now (buffer .entry))) (now (len .entry)) (length (now (entries .entry))) (Stores.pushSeq (now (bytes .entry)) offset count) ⌝ }
     ensures bytes { λ _. ⌜ now (buffer .exit)
         ≡ bytesAfter (now (buffer .entry)) (now (len .entry)) (length (now (entries .entry))) (Stores.pushSeq (now (bytes .entry)) offset count) ⌝ }
     ensures entries { λ _. ⌜ now (entries .exit)
@@ -78,8 +79,8 @@ pub fn overwrite(
     start: usize,
     letters: &[u8],
 ) -> u32
-    ensures says { λ r. ⌜ said r (0, 0, now (len .exit)) ≡ countedAnswer (length (now (buffer .entry)))
-        (now (len .entry)) (length (now (entries .entry))) (Stores.overwrite start (now (letters .entry))) ⌝ }
+    ensures says { λ r. ⌜ said r (0, 0, now (len .exit))
+        ≡ countedAnswer (length (now (buffer .entry))) (now (len .entry)) (length (now (entries .entry))) (Stores.overwrite start (now (letters .entry))) ⌝ }
     ensures bytes { λ _. ⌜ now (buffer .exit)
         ≡ bytesAfter (now (buffer .entry)) (now (len .entry)) (length (now (entries .entry))) (Stores.overwrite start (now (letters .entry))) ⌝ }
     ensures entries { λ _. ⌜ now (entries .exit)

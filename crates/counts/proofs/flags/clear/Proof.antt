@@ -1,6 +1,5 @@
 -- The plain clear is the whole of it. Assumes nothing.
 use mathlib.Core.Path.{_∙_}
-use lib.ListN.{length}
 use borrow.Author.Needs.{needs}
 use Rattle.counts.proofs.CallLaws.{clear-plain, clear-entries}
 use Rattle.counts.proofs.flags.clear.Statement.{statement}

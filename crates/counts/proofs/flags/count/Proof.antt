@@ -1,15 +1,13 @@
 -- Refused, or the range counted: the tests give what the counting asks for. Assumes nothing.
-use mathlib.Core.Path.{_≡_, sym, _∙_}
+use mathlib.Core.Path.{sym, _∙_}
 use Prim.Native.Nat.{ℕ, _+_, _^_, _≤_}
 use native.Mathlib.Omega.{arith}
 use borrow.Author.Tests.{ltb-false}
 use borrow.Author.Needs.{needs}
 use lib.ListN.{length}
 use Rattle.codes.specs.Codes.{chars, up, trailing}
-use Rattle.codes.specs.Refusals.{first}
-use Rattle.codes.specs.declared.refusals.Outcome.the-variants.{Done}
 use Rattle.codes.proofs.OutcomeLaws.{answer-refused, answer-done}
-use Rattle.stores.proofs.CallLaws.{Passed, done-passed}
+use Rattle.stores.proofs.CallLaws.{done-passed}
 use Rattle.counts.specs.Blocks.{blocks, rangeCount}
 use Rattle.counts.specs.Counts.{queryTests, queried}
 use Rattle.counts.proofs.flags.count.Statement.{statement}

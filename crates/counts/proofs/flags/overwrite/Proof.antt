@@ -1,6 +1,6 @@
 -- The ways out: refused as the plain call is, too few entries, or done, and the blocks that it touches are counted. Assumes nothing.
 use mathlib.Core.Path.{_≡_, ap, _∙_}
-use Prim.Native.Nat.{ℕ, _+_, _^_, _≤_}
+use Prim.Native.Nat.{_+_, _^_, _≤_}
 use native.Mathlib.Omega.{arith}
 use borrow.Author.Tests.{ltb-false}
 use borrow.Author.Needs.{needs}
@@ -36,7 +36,9 @@ module _ (c : tie.After-blocks-of) where
   room = plain-room (s .args .buffer .now) (s .args .len .0) (overwrite (s .args .start .0) (s .args .letters .now)) (judged o) (c .before .before .enum-told .given .1)
 
   end : s .args .start .0 + length (s .args .letters .now) ≤ s .args .len .0
-  end = ltb-false (s .args .len .0) (s .args .start .0 + length (s .args .letters .now)) (plain-passed (s .args .buffer .now) (s .args .len .0) (overwrite (s .args .start .0) (s .args .letters .now)) (judged o) (c .before .before .enum-told .given .1) .1 .1 .0)
+  end =
+      ltb-false (s .args .len .0) (s .args .start .0 + length (s .args .letters .now))
+      (plain-passed (s .args .buffer .now) (s .args .len .0) (overwrite (s .args .start .0) (s .args .letters .now)) (judged o) (c .before .before .enum-told .given .1) .1 .1 .0)
 
 end-outcome-requires : tie.Need-end-outcome-requires
 end-outcome-requires c κs = search needs

@@ -32,7 +32,9 @@ returns : tie.Need-returns
 returns c =
     let a = c .before .before .before .args in
     let n : min 256 (a .len - a .b * size) ≡ min (a .b * size + size) (a .len) - a .b * size = omega arith in
-    c .set-flags .ensures ∙ ap (λ (x : ℕ). setFlags (chars 1 (a .track .now) (a .b * size) x)) (c .before .smaller .ensures ∙ n) ∙ sym (ap setFlags (block-chars (a .track .now) (a .len) (a .b)))
+    c .set-flags .ensures
+    ∙ ap (λ (x : ℕ). setFlags (chars 1 (a .track .now) (a .b * size) x)) (c .before .smaller .ensures ∙ n)
+    ∙ sym (ap setFlags (block-chars (a .track .now) (a .len) (a .b)))
 
 pub count-block-spec : {M : Type 1} → statement M
 count-block-spec =

@@ -1,7 +1,6 @@
 -- The invariant: the entries up to b are counted, and nothing else changed. Assumes nothing.
 use Prim.Native.Nat.{_-_, _≤_}
 use native.Mathlib.Omega.{arith}
-use borrow.Author.Needs.{needs}
 use Rattle.codes.specs.Codes.{chars}
 use Rattle.codes.specs.Made.{Made}
 use Rattle.codes.proofs.MadeLaws.{made-none, made-more, made-to}

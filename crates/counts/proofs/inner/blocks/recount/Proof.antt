@@ -1,11 +1,9 @@
 -- The blocks from that of the first character up to that of the last one, as far as there are any. Assumes nothing.
-use mathlib.Core.Path.{_≡_, sym, ap, ap₂, _∙_, subst}
-use Prim.Native.Nat.{ℕ, _/_, min}
+use mathlib.Core.Path.{sym, ap, ap₂, _∙_}
+use Prim.Native.Nat.{min}
 use native.Mathlib.Omega.{arith}
 use borrow.Author.Needs.{needs}
-use lib.ListN.{length}
 use Rattle.codes.specs.Codes.{chars}
-use Rattle.codes.specs.Made.{Made}
 use Rattle.codes.proofs.CharLaws.{length-chars}
 use Rattle.codes.proofs.MadeLaws.{made-to}
 use Rattle.counts.specs.Blocks.{blocks}

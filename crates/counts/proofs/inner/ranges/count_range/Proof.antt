@@ -1,6 +1,6 @@
 -- The ends are parts of the track's flags, by their places. Assumes nothing.
 use mathlib.Core.List.{List}
-use mathlib.Core.Path.{_≡_, sym, ap, ap₂, _∙_}
+use mathlib.Core.Path.{_≡_, sym, ap, _∙_}
 use Prim.Native.Nat.{ℕ, _+_, _-_, _*_, _/_, _≤_, min, max}
 use native.Mathlib.Nat.{zero-add}
 use native.Mathlib.Omega.{arith}
@@ -10,7 +10,7 @@ use Rattle.codes.specs.Codes.{chars}
 use Rattle.codes.proofs.CharLaws.{chars-slice}
 use Rattle.fields.specs.Flags.{sum, setFlags}
 use Rattle.fields.proofs.FlagLaws.{flags-few}
-use Rattle.counts.specs.Blocks.{size, blocks, wholeFrom, wholeTo, rangeCount}
+use Rattle.counts.specs.Blocks.{size, wholeFrom, wholeTo, rangeCount}
 use Rattle.counts.proofs.inner.ranges.count_range.Statement.{statement}
 use Rattle.counts.proofs.inner.ranges.count_range.Tie as tie
 
