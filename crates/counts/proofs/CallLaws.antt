@@ -1,14 +1,13 @@
 -- The laws of the calls: their outcome by that of the plain call and by the entries, and what they answer and leave where it is known.
 -- Assumes nothing.
-use mathlib.Core.List.{List, [], _∷_, map}
-use mathlib.Core.Path.{_≡_, refl, sym, ap, _∙_}
-use Prim.Native.Nat.{ℕ, _+_, _^_, _≤_, _<_, max, zero-le}
-use native.Mathlib.Nat.{le-refl}
+use mathlib.Core.List.{List, [], _∷_}
+use mathlib.Core.Path.{_≡_, refl, sym, _∙_}
+use Prim.Native.Nat.{ℕ, _+_, _^_, _≤_, _<_, zero-le}
 use native.Mathlib.Omega.{arith}
 use borrow.Author.Tests.{ltb-false}
 use lib.Dec.{ltb}
-use lib.ListN.{length, length-map}
-use Rattle.codes.specs.Codes.{code, up, trailing}
+use lib.ListN.{length}
+use Rattle.codes.specs.Codes.{up, trailing}
 use Rattle.codes.specs.Refusals.{Answer, answer, first, ifDone}
 use Rattle.codes.specs.declared.refusals.Outcome.{Outcome}
 use Rattle.codes.specs.declared.refusals.Outcome.the-variants.{Done, Refused}
@@ -16,15 +15,13 @@ use Rattle.codes.specs.declared.refusals.Refusal.{Refusal}
 use Rattle.codes.specs.declared.refusals.Refusal.the-variants.{NoRoom}
 use Rattle.codes.proofs.CharLaws.{length-chars}
 use Rattle.codes.proofs.OutcomeLaws.{passed, first-refused, first-done, first-both, room-short, room-right}
-use Rattle.codes.proofs.WidthLaws.{width-1}
 use Rattle.runs.specs.Runs.{seqStart}
-use Rattle.runs.proofs.SeqLaws.{seq-end}
 use Rattle.stores.specs.Stores.{Call, clear, pushAscii, pushSeq, overwrite, cut, tests, outcome, deed, span, oldLength, answered, after}
 use Rattle.stores.proofs.CallLaws.{Passed, Judged, judged-passed, by-outcome}
 use Rattle.stores.proofs.CallLaws as Plain
 use Rattle.counts.specs.Blocks.{blocks, touched, recounted}
 use Rattle.counts.specs.Counts.{tooFew, countedOutcome, countedAnswer, bytesAfter, newFlags, entriesAfter}
-use Rattle.counts.proofs.BlockLaws.{recounted-none, recounted-empty}
+use Rattle.counts.proofs.BlockLaws.{recounted-empty}
 
 -- an answer, a buffer and entries are what a call gives and leaves
 abbrev pub Left : List ℕ → ℕ → List ℕ → Call → Answer (ℕ × ℕ × ℕ) → List ℕ → List ℕ → Type 0
@@ -118,19 +115,3 @@ module _ (bs : List ℕ) (len : ℕ) (entries : List ℕ) where
   clear-entries =
       by-outcome (λ o. entries ≡ ifDone o (recounted entries (touched len (deed 1 len clear)) (newFlags bs len clear)) entries)
       (countedOutcome (length bs) len (length entries) clear) (λ e. recounted-empty entries _ (newFlags bs len clear) (length-chars 1 (after 1 bs len clear) 0 0)) (λ r e. refl)
-
--- what each call touches
-module _ (entries : List ℕ) (len : ℕ) (flags : List ℕ) where
-  pub touched-letters : (ls : List ℕ) → recounted entries (len, len + length ls) flags ≡ recounted entries (touched len (deed 1 len (pushAscii ls))) flags
-  touched-letters [] = sym (recounted-none entries len (len + 0) flags (omega arith)) ∙ recounted-none entries 0 0 flags (le-refl 0)
-  touched-letters (l ∷ ls) =
-      ap (λ (n : ℕ). recounted entries (len, n) flags) (let e : len + length (l ∷ ls) ≡ max len (len + length (map (code 1) (l ∷ ls))) = omega (arith, length-map (l ∷ ls) (code 1)) in e)
-
-  pub touched-seq : (bs : List ℕ) (o n : ℕ) → recounted entries (len, seqStart 1 len o + n) flags ≡ recounted entries (touched len (deed 1 len (pushSeq bs o n))) flags
-  touched-seq bs o n = ap (λ (x : ℕ). recounted entries (len, x) flags) (omega (arith, seq-end width-1 len bs o n))
-
-  pub touched-over : (at : ℕ) (ls : List ℕ) → recounted entries (at, at + length ls) flags ≡ recounted entries (touched len (deed 1 len (overwrite at ls))) flags
-  touched-over at ls = ap (λ (n : ℕ). recounted entries (at, at + n) flags) (sym (length-map ls (code 1)))
-
-  pub touched-cut : (n : ℕ) → n ≤ len → recounted entries (n, len) flags ≡ recounted entries (touched len (deed 1 len (cut n))) flags
-  touched-cut n h = ap (λ (x : ℕ). recounted entries (n, x) flags) (let e : len ≡ max len (n + 0) = omega arith in e)

@@ -1,6 +1,7 @@
 pub mod SumLaws
 pub mod BlockLaws
 pub mod CallLaws
+pub mod TouchLaws
 pub mod CountsRight
 pub mod Counted
 pub mod HistoryLaws

@@ -12,7 +12,8 @@ use Rattle.codes.specs.Refusals.{first, tooLong, badStore, badEnd}
 use Rattle.stores.specs.Stores.{cut, outcome}
 use Rattle.counts.specs.Blocks.{blocks, recounted}
 use Rattle.counts.specs.Counts.{newFlags}
-use Rattle.counts.proofs.CallLaws.{left-refused, left-few, left-done, plain-passed, plain-room, touched-cut}
+use Rattle.counts.proofs.CallLaws.{left-refused, left-few, left-done, plain-passed, plain-room}
+use Rattle.counts.proofs.TouchLaws.{touched-cut}
 use Rattle.counts.proofs.flags.cut.Statement.{statement}
 use Rattle.counts.proofs.flags.cut.Tie as tie
 

@@ -9,7 +9,8 @@ use Rattle.codes.specs.Codes.{chars, up, trailing}
 use Rattle.stores.specs.Stores.{overwrite, outcome}
 use Rattle.counts.specs.Blocks.{blocks, recounted}
 use Rattle.counts.specs.Counts.{newFlags}
-use Rattle.counts.proofs.CallLaws.{left-refused, left-few, left-done, plain-passed, plain-room, touched-over}
+use Rattle.counts.proofs.CallLaws.{left-refused, left-few, left-done, plain-passed, plain-room}
+use Rattle.counts.proofs.TouchLaws.{touched-over}
 use Rattle.counts.proofs.flags.overwrite.Statement.{statement}
 use Rattle.counts.proofs.flags.overwrite.Tie as tie
 

@@ -8,7 +8,8 @@ use Rattle.codes.specs.Codes.{chars, up, trailing}
 use Rattle.stores.specs.Stores.{pushAscii, outcome}
 use Rattle.counts.specs.Blocks.{blocks, recounted}
 use Rattle.counts.specs.Counts.{newFlags}
-use Rattle.counts.proofs.CallLaws.{left-refused, left-few, left-done, plain-room, touched-letters}
+use Rattle.counts.proofs.CallLaws.{left-refused, left-few, left-done, plain-room}
+use Rattle.counts.proofs.TouchLaws.{touched-letters}
 use Rattle.counts.proofs.flags.push_ascii.Statement.{statement}
 use Rattle.counts.proofs.flags.push_ascii.Tie as tie
 

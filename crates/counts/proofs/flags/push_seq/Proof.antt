@@ -10,7 +10,8 @@ use Rattle.runs.specs.Runs.{seqStart}
 use Rattle.stores.specs.Stores.{pushSeq, outcome}
 use Rattle.counts.specs.Blocks.{blocks, recounted}
 use Rattle.counts.specs.Counts.{newFlags}
-use Rattle.counts.proofs.CallLaws.{left-refused, left-few, left-done, plain-passed, plain-room, touched-seq}
+use Rattle.counts.proofs.CallLaws.{left-refused, left-few, left-done, plain-passed, plain-room}
+use Rattle.counts.proofs.TouchLaws.{touched-seq}
 use Rattle.counts.proofs.flags.push_seq.Statement.{statement}
 use Rattle.counts.proofs.flags.push_seq.Tie as tie
 
