@@ -34,7 +34,10 @@ fn main() -> Result<(), Refusal> {
     let mut counted = counts::Store::clear(&mut count_buffer, &mut entries)?;
     counted.push_ascii(b"ACNNGTN")?;
     let stretch = counted.count(Chars(1), Chars(4))?;
-    println!("ambiguous {:?} in all, {stretch} from 1 to 4", counted.entries());
+    println!(
+        "ambiguous {:?} in all, {stretch} from 1 to 4",
+        counted.entries()
+    );
 
     match track.cut(Chars(9)) {
         Err(refusal) => println!("refused {} {refusal}", refusal.number()),

@@ -99,6 +99,22 @@ pub struct Pushed {
     pub len: Chars,
 }
 
+impl Pushed {
+    /// What a push gave, where its number is 0.
+    pub(crate) fn check(
+        number: u32,
+        start: usize,
+        end: usize,
+        len: Chars,
+    ) -> Result<Self, Refusal> {
+        Refusal::check(number).map(|()| Pushed {
+            start: Chars(start),
+            end: Chars(end),
+            len,
+        })
+    }
+}
+
 /// The numbers of a stream.
 #[derive(Clone, Copy, Debug, Default, PartialEq, Eq)]
 pub struct Shape {

@@ -87,14 +87,6 @@ impl<'a> Store<'a> {
         Refusal::check(number).map(|()| total)
     }
 
-    fn pushed(&self, number: u32, start: usize, end: usize) -> Result<Pushed, Refusal> {
-        Refusal::check(number).map(|()| Pushed {
-            start: Chars(start),
-            end: Chars(end),
-            len: self.len,
-        })
-    }
-
     /// Puts the flags of letters at the end.
     pub fn push_ascii(&mut self, letters: &[u8]) -> Result<Pushed, Refusal> {
         let (mut start, mut end) = (0, 0);
@@ -112,7 +104,7 @@ impl<'a> Store<'a> {
                 &mut end,
             )
         };
-        self.pushed(number, start, end)
+        Pushed::check(number, start, end, self.len)
     }
 
     /// Puts a view behind, in a byte of its own.
@@ -134,7 +126,7 @@ impl<'a> Store<'a> {
                 &mut end,
             )
         };
-        self.pushed(number, start, end)
+        Pushed::check(number, start, end, self.len)
     }
 
     /// Puts the flags of letters over those from `start` on.
