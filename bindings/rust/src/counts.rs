@@ -1,4 +1,15 @@
 //! Stores of flags with their counts: beside the store an entry for each block of 256 characters, how many of its flags are set.
+//!
+//! ```
+//! use tsivelaro::{counts, Chars};
+//!
+//! let (mut buffer, mut entries) = ([0; 128], [0; 2]);
+//! let mut store = counts::Store::clear(&mut buffer, &mut entries)?;
+//! store.push_ascii(&[b'N'; 300])?;
+//! assert_eq!(store.entries(), [256, 44]);
+//! assert_eq!(store.count(Chars(10), Chars(290))?, 280);
+//! # Ok::<(), tsivelaro::Refusal>(())
+//! ```
 
 use crate::{flags, sys, Chars, Pushed, Refusal};
 

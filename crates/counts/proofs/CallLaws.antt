@@ -47,6 +47,10 @@ module _ (bs : List ℕ) (len : ℕ) (entries : List ℕ) (call : Call) where
     unfolding countedAnswer bytesAfter entriesAfter answered
     done-left = (rw (e, done-both .0), (rw e, rw e))
 
+    pub done-length : countedAnswer (length bs) len (length entries) call .values .2 ≡ span 1 len call .2
+    unfolding countedAnswer answered
+    done-length = rw (e, done-both .0)
+
   -- and where the plain call's is
   pub plain-refused : (r : Refusal) → outcome 1 (length bs) len call ≡ Refused r → countedOutcome (length bs) len (length entries) call ≡ Refused r
   unfolding countedOutcome outcome

@@ -22,8 +22,8 @@ use Rattle.stores.proofs.KeptLaws.{char-kept}
 use Rattle.counts.specs.Blocks.{size, blocks, block, touched, meets, recounted}
 use Rattle.counts.specs.Counts.{countedOutcome, newFlags}
 use Rattle.counts.specs.History.{Counted, Right, step}
-use Rattle.counts.proofs.BlockLaws.{block-chars, meets-no, recounted-length, entry-fresh, entry-kept}
-use Rattle.counts.proofs.CallLaws.{done-both, done-left, refused-left}
+use Rattle.counts.proofs.BlockLaws.{block-chars, meets-no, entry-fresh, entry-kept}
+use Rattle.counts.proofs.CallLaws.{done-both, done-left, done-length, refused-left}
 
 -- what a call on len characters, n after it, leaves of block b: it lies in both lengths as far, and no character of it is overwritten
 record Spared (len n : ℕ) (call : Call) (b : ℕ) : Type 0 where
@@ -55,7 +55,7 @@ spared m len (cut n) b p l u =
 
 -- no flags have no blocks
 pub right-none : (entries bs : List ℕ) → Right entries (chars 1 bs 0 0)
-right-none entries bs = let none : length (chars 1 bs 0 0) ≡ 0 = length-chars 1 bs 0 0 in record { enough = omega arith; right = λ b l. absurd (omega arith) }
+right-none entries bs b l k = let none : length (chars 1 bs 0 0) ≡ 0 = length-chars 1 bs 0 0 in absurd (omega arith)
 
 -- a call that is done
 module _ (bs : List ℕ) (len : ℕ) (entries : List ℕ) (call : Call) (R : Right entries (chars 1 bs 0 len)) (e : countedOutcome (length bs) len (length entries) call ≡ Done) where
@@ -94,17 +94,11 @@ module _ (bs : List ℕ) (len : ℕ) (entries : List ℕ) (call : Call) (R : Rig
       let many = done-both bs len entries call e .1 in
       let starts = k .starts in
       entry-kept entries (touched len (deed 1 len call)) flags b (omega arith) (λ h. u)
-      ∙ R .right b (omega (arith, length-chars 1 bs 0 len))
+      ∙ R b (omega arith) (omega (arith, length-chars 1 bs 0 len))
       ∙ ap setFlags (sym (block-kept b k))
 
   right-done : Right (recounted entries (touched len (deed 1 len call)) flags) flags
-  right-done =
-      let long = length-chars 1 (after 1 bs len call) 0 n in
-      let many = done-both bs len entries call e .1 in
-      record {
-        enough = omega (arith, recounted-length entries (touched len (deed 1 len call)) flags);
-        right = λ b l. entry-right b (omega arith) (meets (touched len (deed 1 len call)) b) refl;
-      }
+  right-done b l k = entry-right b (omega (arith, length-chars 1 (after 1 bs len call) 0 n)) (meets (touched len (deed 1 len call)) b) refl
 
 -- a refused clear gives length 0, any other refused call the old one
 right-refused : (bs : List ℕ) (len : ℕ) (entries : List ℕ) (call : Call) → Right entries (chars 1 bs 0 len) → Right entries (chars 1 bs 0 (oldLength len call))
@@ -124,7 +118,7 @@ counts-right s call R =
     (λ d e.
     let left = done-left bs len entries call e in
     subst (λ (t : Counted). Right (t .entries) (flagsOf (t .store)))
-    (λ i. record { store = record { bytes = left .1 .0 i; len = (sym (span-is bs len entries call R e) ∙ ap (λ (a : _). a .values .2) (left .0)) i }; entries = left .1 .1 i })
+    (λ i. record { store = record { bytes = left .1 .0 i; len = sym (done-length bs len entries call e) i }; entries = left .1 .1 i })
     (right-done bs len entries call R e))
     (λ r d e.
     let left = refused-left bs len entries call r e in

@@ -2,7 +2,8 @@
 -- Assumes nothing.
 use mathlib.Core.List.{List, [], _∷_}
 use mathlib.Core.Path.{_≡_, refl, sym, ap, _∙_, subst}
-use Prim.Native.Nat.{ℕ, zero-le}
+use Prim.Native.Nat.{ℕ, _≤_, zero-le}
+use native.Mathlib.Nat.{le-refl}
 use native.Mathlib.Omega.{arith}
 use lib.ListN.{length}
 use Rattle.codes.specs.Codes.{chars}
@@ -18,11 +19,11 @@ use Rattle.stores.specs.Stores as Stores
 use Rattle.stores.proofs.CallLaws.{by-outcome}
 use Rattle.stores.proofs.HistoryLaws.{Kept, clear-done, clear-kept}
 use Rattle.stores.proofs.HistoryLaws as Kepts
-use Rattle.counts.specs.Blocks.{touched, recounted}
+use Rattle.counts.specs.Blocks.{blocks, touched, recounted}
 use Rattle.counts.specs.Counts.{countedOutcome, newFlags, entriesAfter}
 use Rattle.counts.specs.History.{Counted, Right, step, run, edit, history}
 use Rattle.counts.proofs.BlockLaws.{recounted-length}
-use Rattle.counts.proofs.CallLaws.{done-both, done-left, refused-left, plain-enough}
+use Rattle.counts.proofs.CallLaws.{done-both, done-left, done-length, refused-left, plain-enough}
 use Rattle.counts.proofs.CountsRight.{right-none, counts-right}
 
 entries-length : (bs : List ℕ) (len : ℕ) (entries : List ℕ) (call : Call) → length (entriesAfter bs len entries call) ≡ length entries
@@ -86,6 +87,31 @@ pub run-right : (cs : List Call) (s : Counted) → Right (s .entries) (Plain.fla
 run-right [] s R = R
 run-right (c ∷ cs) s R = run-right cs (step s c) (counts-right s c R)
 
+-- the length that a refused call gives is no longer than the old one
+old-least : (len : ℕ) (call : Call) → oldLength len call ≤ len
+old-least len clear = zero-le
+old-least len (pushAscii ls) = le-refl len
+old-least len (pushSeq vs o n) = le-refl len
+old-least len (overwrite at ls) = le-refl len
+old-least len (cut n) = le-refl len
+
+-- where there are entries for the length, there are for the new one
+step-enough : (s : Counted) (call : Call) → blocks (s .store .len) ≤ length (s .entries) → blocks (step s call .store .len) ≤ length (step s call .entries)
+step-enough s call h =
+    let bs : List ℕ = s .store .bytes in
+    let len : ℕ = s .store .len in
+    let entries : List ℕ = s .entries in
+    let long = entries-length bs len entries call in
+    by-outcome (λ o. countedOutcome (length bs) len (length entries) call ≡ o → blocks (step s call .store .len) ≤ length (step s call .entries))
+    (countedOutcome (length bs) len (length entries) call)
+    (λ d e. omega (arith, done-both bs len entries call e .1, done-length bs len entries call e))
+    (λ r d e. omega (arith, ap (λ (a : _). a .values .2) (refused-left bs len entries call r e .0), old-least len call))
+    refl
+
+pub run-enough : (cs : List Call) (s : Counted) → blocks (s .store .len) ≤ length (s .entries) → blocks (run s cs .store .len) ≤ length (run s cs .entries)
+run-enough [] s h = h
+run-enough (c ∷ cs) s h = run-enough cs (step s c) (step-enough s c h)
+
 -- the store and the entries that an accepted clear leaves
 module _ (bs : List ℕ) (old : ℕ) (entries : List ℕ) (e : countedOutcome (length bs) 0 (length entries) clear ≡ Done) where
   abbrev pub cleared : Counted
@@ -102,3 +128,6 @@ module _ (bs : List ℕ) (old : ℕ) (entries : List ℕ) (e : countedOutcome (l
 
   pub cleared-right : Right (cleared .entries) (Plain.flagsOf (cleared .store))
   cleared-right = subst (λ (x : ℕ). Right (cleared .entries) (chars 1 (cleared .store .bytes) 0 x)) (sym (cleared-kept .lengths)) (right-none (cleared .entries) (cleared .store .bytes))
+
+  pub cleared-enough : blocks (cleared .store .len) ≤ length (cleared .entries)
+  cleared-enough = omega (arith, cleared-kept .lengths)

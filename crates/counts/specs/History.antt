@@ -3,7 +3,7 @@
 -- Assumes nothing.
 use mathlib.Core.List.{List, [], _∷_}
 use mathlib.Core.Path.{_≡_}
-use Prim.Native.Nat.{ℕ, _≤_, _<_}
+use Prim.Native.Nat.{ℕ, _<_}
 use lib.ListN.{length, getD}
 use Rattle.codes.specs.Refusals.{ifDone}
 use Rattle.fields.specs.Flags.{setFlags}
@@ -40,7 +40,6 @@ abbrev pub history : ℕ → ℕ → List ℕ → List Call → List ℕ
 history m n h [] = h
 history m n h (c ∷ cs) = history m n (charsAfter h (edit m n (length h) c)) cs
 
--- entries that are right for a list of flags: there is one for each block, and up to the last block each is the count of its block
-pub record Right (entries flags : List ℕ) : Type 0 where
-  pub enough : blocks (length flags) ≤ length entries
-  pub right : (b : ℕ) → b < blocks (length flags) → getD entries b 0 ≡ setFlags (block flags b)
+-- entries that are right for a list of flags: each that it has a block for is the count of that block
+abbrev pub Right : List ℕ → List ℕ → Type 0
+Right entries flags = (b : ℕ) → b < length entries → b < blocks (length flags) → getD entries b 0 ≡ setFlags (block flags b)
