@@ -69,7 +69,7 @@ enum {
     TSIV_BAD_LETTER = 6, /* a byte that is no such letter; a code above 3 */
     TSIV_BAD_FORM = 7,   /* bytes that are no stored form */
     TSIV_BAD_STREAM = 8, /* stream numbers outside their ranges */
-    TSIV_NO_ROOM = 9     /* an output buffer is shorter than the answer needs */
+    TSIV_NO_ROOM = 9     /* an output buffer is shorter than the answer needs; fewer entries than a store has blocks */
 };
 
 /* A refusal's name, as above without the prefix; "?" for a number that is none. */
@@ -308,8 +308,8 @@ TSIV_USE uint32_t tsiv_flags_cut_counted(uint8_t *buffer, size_t buffer_size, si
 
 /*
  * *total: how many flags are set from character start up to character end of a store of len characters: the sum of the entries of the
- * blocks of 256 that lie in the range whole, and its ends counted flag by flag; with right entries, the count of the range. BAD_STORE;
- * BAD_RANGE for an end beyond len or a start after its end; NO_ROOM for fewer entries than TSIV_COUNTS_ROOM(len).
+ * blocks of 256 that lie in the range whole, and the plain count of its ends; with right entries, the plain count of the range. TOO_LONG,
+ * BAD_STORE; BAD_RANGE for an end beyond len or a start after its end; NO_ROOM for fewer entries than TSIV_COUNTS_ROOM(len).
  */
 TSIV_USE uint32_t tsiv_flags_count(const uint8_t *buffer, size_t buffer_size, size_t len, const uint16_t *entries,
                                    size_t entries_size, size_t start, size_t end, uint64_t *total);

@@ -26,7 +26,7 @@ pub enum Refusal {
     BadForm = 7,
     /// Stream numbers outside their ranges.
     BadStream = 8,
-    /// An output buffer is shorter than the answer needs.
+    /// An output buffer is shorter than the answer needs, or there are fewer entries than a store has blocks.
     NoRoom = 9,
 }
 

@@ -9,5 +9,6 @@ pub mod History
 pub mod AnswerLaws
 pub mod Lowest
 pub mod Viewed
+pub mod Untouched
 pub mod Decided
 pub mod Called
