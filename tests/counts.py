@@ -1,12 +1,13 @@
 """counts.py FOLDER: stores of flags with counts of their blocks, from the rules alone: plain and slow, a flag at a time. Writes FOLDER/cases
 for tests/counts.c, histories of calls with wrong entries, short slices and refused calls among them; and FOLDER/answers, what the rules say to
-each call: its numbers, then every byte of the buffer and every entry."""
+each call: its numbers, then every byte of the buffer and every entry. SEED sets where the dice begin."""
+import os
 import random
 import sys
 
 BEHIND, BLOCK = 48, 256
 BAD_STORE, BAD_VIEW, BAD_RANGE, NO_ROOM = 2, 3, 4, 9
-dice = random.Random(1)
+dice = random.Random(int(os.environ.get("SEED", 1)))
 cases, answers = [], []
 
 
@@ -134,30 +135,35 @@ def near(*marks):
     return max(0, dice.choice([mark, mark, mark - 1, mark + 1, mark - 8, mark + 9, dice.randrange(1400), dice.choice([2**31, 2**63, 2**64 - 1])]))
 
 
-def fresh(size, entries, length=None):
-    """A buffer, of any bytes, and any entries; or only its size, where it is to be cleared."""
-    return Store(dice.randbytes(size), dice.randrange(1400) if length is None else length, [dice.randrange(65536) for _ in range(entries)])
+def fresh(size, entries, length):
+    """A buffer of any bytes, and any entries."""
+    return Store(dice.randbytes(size), length, [dice.randrange(65536) for _ in range(entries)])
+
+
+def up_to(n):
+    """A number up to n, more often than not."""
+    return dice.randrange(n + 1) if dice.random() < 0.7 else near(n, n // 2)
 
 
 def turn(store):
-    n, free = store.length, len(store.bits) - BEHIND * 8 - store.length
+    n, free = store.length, max(0, len(store.bits) - BEHIND * 8 - store.length)
     match dice.randrange(12):
         case 0 | 1 | 2:
-            store.push_ascii(letters(dice.choice([0, 1, 7, 8, dice.randrange(40), dice.randrange(300), max(0, -n % BLOCK + dice.randrange(-1, 2)), max(0, min(free, 1200))])))
+            to_a_block = -n % BLOCK + dice.randrange(2)
+            store.push_ascii(letters(min(1200, dice.choice([0, 1, 8, dice.randrange(40), dice.randrange(300), to_a_block, free, up_to(free)]))))
         case 3 | 4:
-            length = dice.choice([0, 0, 1, dice.randrange(40), dice.randrange(300)])
-            offset = dice.choice([0, 0, dice.randrange(20)])
+            length, offset = dice.choice([0, 0, 1, dice.randrange(40), dice.randrange(300)]), dice.choice([0, 0, dice.randrange(20)])
             track = dice.randbytes(up(offset + length, 8) + BEHIND)
             store.push_seq(track, offset, length if dice.random() < 0.9 else near(length))
         case 5 | 6:
-            start = near(n, n // 2)
-            length = dice.choice([0, 1, dice.randrange(40), dice.randrange(600), max(0, min(n - start, 1200))])
-            store.overwrite(start, letters(length))
+            start = up_to(n)
+            left = max(0, min(n - start, 1200))
+            store.overwrite(start, letters(dice.choice([0, min(1, left), left, dice.randrange(left + 1), dice.randrange(600)])))
         case 7:
-            store.cut(near(n, n, n - 1, n // 2))
+            store.cut(dice.choice([n, max(0, n - 1), up_to(n), up_to(n)]))
         case 8 | 9 | 10:
-            end = near(n, n)
-            store.query(near(0, end, end - BLOCK), end)
+            end = dice.choice([n, up_to(n)])
+            store.query(dice.choice([0, up_to(end), up_to(max(0, end - BLOCK))]), end)
         case _:
             if dice.random() < 0.2:
                 store.clear()
@@ -166,7 +172,7 @@ def turn(store):
 # Histories of a cleared store: whatever the entries held, they are right from then on.
 for _ in range(150):
     size = BEHIND + dice.choice([0, 1, 32, 33, 64, dice.randrange(170)])
-    store = fresh(size, dice.choice([0, 1, 2, up((size - BEHIND) * 8, BLOCK), 9]))
+    store = fresh(size, dice.choice([0, 1, up((size - BEHIND) * 8, BLOCK), up((size - BEHIND) * 8, BLOCK), 9]), dice.randrange(1400))
     store.clear()
     for _ in range(40):
         turn(store)
@@ -175,7 +181,7 @@ for _ in range(150):
 # Stores with any bytes, any length and wrong entries, of which no call mends but what it touches.
 for _ in range(700):
     size = dice.choice([dice.randrange(60), BEHIND + dice.randrange(170)])
-    store = fresh(size, dice.choice([0, 1, 2, 3, 6, 7, 8]), near(max(0, size - BEHIND) * 8) if dice.random() < 0.3 else None)
+    store = fresh(size, dice.choice([0, 1, 3, 6, 6, 8, 8]), up_to(max(0, size - BEHIND) * 8))
     for _ in range(5):
         turn(store)
 
