@@ -1,4 +1,4 @@
-/* Pack a read, look at its reverse complement, compare the two, glue them, store the tracks, read them back. */
+/* Pack a read, look at its reverse complement, compare the two, glue them, store the tracks, read them back, count a stretch's flags. */
 #include <stdio.h>
 #include <stdlib.h>
 #include <string.h>
@@ -19,6 +19,8 @@ int main(void)
     const size_t n = sizeof read - 1;
     uint8_t bases[TSIV_BASES_ROOM(64)], flags[TSIV_FLAGS_ROOM(64)], reverse[TSIV_BASES_ROOM(64)];
     uint8_t letters[64], form[TSIV_FORM_ROOM(64)];
+    uint16_t entries[TSIV_COUNTS_ROOM(64)];
+    uint64_t total;
     size_t len, marks, start, end, size, again;
     int32_t order;
 
@@ -50,6 +52,12 @@ int main(void)
     must(tsiv_form_read(form, size, bases, sizeof bases, flags, sizeof flags, &again));
     must(tsiv_bases_unpack(bases, sizeof bases, 0, again, letters, sizeof letters));
     printf("read back %zu: %.*s\n", again, (int)again, (const char *)letters);
+
+    /* Counts beside a track of flags tell how many a stretch has; every call on the store carries them. */
+    must(tsiv_flags_clear_counted(flags, sizeof flags, &marks, entries, 1));
+    must(tsiv_flags_push_ascii_counted(flags, sizeof flags, &marks, entries, 1, (const uint8_t *)"ACNNGTN", 7, &start, &end));
+    must(tsiv_flags_count(flags, sizeof flags, marks, entries, 1, 1, 4, &total));
+    printf("ambiguous %u in all, %llu from 1 to 4\n", entries[0], (unsigned long long)total);
 
     /* What is refused changes nothing. */
     len = again;

@@ -1,12 +1,12 @@
 /*
- * Tsivelaro: packed DNA tracks. Two-bit bases, one-bit ambiguity flags, words, comparison, reverse complement, stores, lane
- * streams, a stored form. Every function is proved to meet its contract, to be safe and to end, on any bytes and numbers
+ * Tsivelaro: packed DNA tracks. Two-bit bases, one-bit ambiguity flags, words, comparison, reverse complement, stores, counts of
+ * flags, lane streams, a stored form. Every function is proved to meet its contract, to be safe and to end, on any bytes and numbers
  * (crates/abi; docs/PROMISES.md says what is promised and what is trusted).
  *
  * CONVENTIONS, for every call below
  *
- *   Units       A size named `NAME_size` counts bytes of the buffer NAME (entries where NAME is of uint32_t), and so do `at` and
- *               `size`. Offsets, lengths, indices and places count characters: two bits each for `tsiv_bases_..`, one bit each
+ *   Units       A size named `NAME_size` counts bytes of the buffer NAME (entries where NAME is of uint16_t or uint32_t), and so do
+ *               `at` and `size`. Offsets, lengths, indices and places count characters: two bits each for `tsiv_bases_..`, one bit each
  *               for `tsiv_flags_..`.
  *   Characters  Character i stands in byte i / C8, at bit width * (i mod C8), low bits first; C8 is 4 for bases and 8 for flags.
  *               Bases are A 0, C 1, T 2, G 3; flags are 0 clear, 1 ambiguous. The bytes are the same on every machine.
@@ -69,7 +69,7 @@ enum {
     TSIV_BAD_LETTER = 6, /* a byte that is no such letter; a code above 3 */
     TSIV_BAD_FORM = 7,   /* bytes that are no stored form */
     TSIV_BAD_STREAM = 8, /* stream numbers outside their ranges */
-    TSIV_NO_ROOM = 9     /* an output buffer is shorter than the answer needs */
+    TSIV_NO_ROOM = 9     /* an output buffer is shorter than the answer needs; fewer entries than a store has blocks */
 };
 
 /* A refusal's name, as above without the prefix; "?" for a number that is none. */
@@ -97,6 +97,10 @@ static inline const char *tsiv_refusal_name(uint32_t number)
 #define TSIV_FLAGS_ROOM(n) ((size_t)(n) / 8 + ((size_t)(n) % 8 != 0) + 48)
 size_t tsiv_bases_room(size_t n);
 size_t tsiv_flags_room(size_t n);
+
+/* The entries beside a store of n flags: one for each block of 256. */
+#define TSIV_COUNTS_ROOM(n) ((size_t)(n) / 256 + ((size_t)(n) % 256 != 0))
+size_t tsiv_counts_room(size_t n);
 
 /* The bytes of the stored form of n characters, n up to 2^29. */
 #define TSIV_FORM_ROOM(n)                                                                                              \
@@ -277,6 +281,38 @@ TSIV_USE uint32_t tsiv_flags_overwrite(uint8_t *buffer, size_t buffer_size, size
 /* Leaves the first m characters, with zeros behind. BAD_RANGE for m above *len. */
 TSIV_USE uint32_t tsiv_bases_cut(uint8_t *buffer, size_t buffer_size, size_t *len, size_t m);
 TSIV_USE uint32_t tsiv_flags_cut(uint8_t *buffer, size_t buffer_size, size_t *len, size_t m);
+
+/*
+ * ---- Stores of flags with their counts. Beside the store you lend entries: entry b is how many flags of block b are set, the characters
+ * from 256 b up to 256 b + 256, the last block partial. The five calls are those above, refusals, answers and buffer the same, and carry
+ * the entries: entries of blocks that have a character which the call writes, cuts or makes a gap of are counted afresh; others, and those
+ * behind the last block of the new length, keep their numbers. NO_ROOM also for fewer entries than TSIV_COUNTS_ROOM of the new length;
+ * more are fine. Refused, every entry stays. After tsiv_flags_clear_counted, and as long as every call on the store is one of these with
+ * the same entries, which nothing else changes, all entries up to the last block are right, whatever they held before.
+ */
+
+/* No entry is looked at or changed, and none is needed. */
+TSIV_USE uint32_t tsiv_flags_clear_counted(uint8_t *buffer, size_t buffer_size, size_t *len, uint16_t *entries,
+                                           size_t entries_size);
+TSIV_USE uint32_t tsiv_flags_push_ascii_counted(uint8_t *buffer, size_t buffer_size, size_t *len, uint16_t *entries,
+                                                size_t entries_size, const uint8_t *letters, size_t letters_size,
+                                                size_t *start, size_t *end);
+TSIV_USE uint32_t tsiv_flags_push_seq_counted(uint8_t *buffer, size_t buffer_size, size_t *len, uint16_t *entries,
+                                              size_t entries_size, const uint8_t *bytes, size_t bytes_size,
+                                              size_t offset, size_t count, size_t *start, size_t *end);
+TSIV_USE uint32_t tsiv_flags_overwrite_counted(uint8_t *buffer, size_t buffer_size, size_t *len, uint16_t *entries,
+                                               size_t entries_size, size_t start, const uint8_t *letters,
+                                               size_t letters_size);
+TSIV_USE uint32_t tsiv_flags_cut_counted(uint8_t *buffer, size_t buffer_size, size_t *len, uint16_t *entries,
+                                         size_t entries_size, size_t m);
+
+/*
+ * *total: how many flags are set from character start up to character end of a store of len characters: the sum of the entries of the
+ * blocks of 256 that lie in the range whole, and the plain count of its ends; with right entries, the plain count of the range. TOO_LONG,
+ * BAD_STORE; BAD_RANGE for an end beyond len or a start after its end; NO_ROOM for fewer entries than TSIV_COUNTS_ROOM(len).
+ */
+TSIV_USE uint32_t tsiv_flags_count(const uint8_t *buffer, size_t buffer_size, size_t len, const uint16_t *entries,
+                                   size_t entries_size, size_t start, size_t end, uint64_t *total);
 
 /*
  * ---- Lane streams: eight lanes side by side over a view. With s = len - context + 1 (0 where len < context), a lane has n characters,

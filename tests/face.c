@@ -42,9 +42,11 @@ static void rooms(void)
         right &= tsiv_bases_room(n) == TSIV_BASES_ROOM(n) && tsiv_flags_room(n) == TSIV_FLAGS_ROOM(n);
         right &= tsiv_form_room(n) == TSIV_FORM_ROOM(n) && tsiv_lanes_room(n) == TSIV_LANES_ROOM(n);
         right &= tsiv_bases_room(n) == (n + 3) / 4 + 48 && tsiv_flags_room(n) == (n + 7) / 8 + 48;
+        right &= tsiv_counts_room(n) == TSIV_COUNTS_ROOM(n) && tsiv_counts_room(n) == (n + 255) / 256;
     }
     HOLD(right);
     HOLD(tsiv_bases_room(SIZE_MAX) == SIZE_MAX / 4 + 1 + 48);
+    HOLD(tsiv_counts_room(256) == 1 && tsiv_counts_room(257) == 2 && tsiv_counts_room(SIZE_MAX) == SIZE_MAX / 256 + 1);
     for (size_t n = SIZE_MAX / 8 - 1; n < SIZE_MAX / 8 + 3; n++)
         HOLD(tsiv_lanes_room(n) == TSIV_LANES_ROOM(n));
     HOLD(tsiv_lanes_room(SIZE_MAX) == SIZE_MAX && TSIV_LANES_ROOM(SIZE_MAX) == SIZE_MAX);
@@ -149,6 +151,15 @@ static void nulls(void)
     HOLD(tsiv_flags_fill_windows(bytes, 64, 0, 0, 1, 1, 0, NULL, 0, &a, &b) == 0 && a == 0);
     a = 0;
     HOLD(tsiv_flags_step_windows(NULL, 0, 0, 0, 1, 1, counts, &a, lanes) == TSIV_BAD_VIEW && a == 0);
+    len = 0;
+    HOLD(tsiv_flags_clear_counted(NULL, 0, &len, NULL, 0) == TSIV_NO_ROOM);
+    HOLD(tsiv_flags_clear_counted(bytes, 64, &len, NULL, 0) == 0 && len == 0);
+    HOLD(tsiv_flags_push_ascii_counted(bytes, 64, &len, NULL, 0, NULL, 0, &a, &b) == 0 && a + b == 0);
+    HOLD(tsiv_flags_push_seq_counted(bytes, 64, &len, NULL, 0, NULL, 0, 0, 0, &a, &b) == TSIV_BAD_VIEW);
+    HOLD(tsiv_flags_overwrite_counted(bytes, 64, &len, NULL, 0, 0, NULL, 0) == 0);
+    HOLD(tsiv_flags_cut_counted(NULL, 0, &len, NULL, 0, 0) == TSIV_BAD_STORE);
+    HOLD(tsiv_flags_count(bytes, 64, 0, NULL, 0, 0, 0, &word) == 0 && word == 0);
+    HOLD(tsiv_flags_count(NULL, 0, 0, NULL, 0, 0, 0, &word) == TSIV_BAD_STORE);
     HOLD(tsiv_form_write(bytes, 64, 0, 0, bytes, 64, 0, 0, NULL, 0, &a) == TSIV_NO_ROOM);
     HOLD(tsiv_form_read(NULL, 0, NULL, 0, NULL, 0, &len) == TSIV_BAD_FORM && len == 0);
     HOLD(one[0] == 5);
@@ -165,6 +176,44 @@ static void windows(void)
     counts[3] = 1;
     HOLD(tsiv_flags_step_windows(bytes, 64, 0, 8, 1, 1, counts, &step, answers) == TSIV_BAD_STREAM);
     HOLD(step == 0 && counts[3] == 0 && answers[0] == 0);
+}
+
+/* Entries beside a store of flags: what touches a block counts it, and nothing else mends a wrong entry. */
+static void counts(void)
+{
+    uint8_t store[TSIV_FLAGS_ROOM(600)], letters[300];
+    uint16_t entries[4] = {9, 9, 9, 9};
+    size_t len = 7, start, end;
+    uint64_t total;
+    memset(letters, 'N', sizeof letters);
+    HOLD(tsiv_flags_clear_counted(store, sizeof store, &len, entries, 4) == 0 && len == 0 && entries[0] == 9);
+    HOLD(tsiv_flags_push_ascii_counted(store, sizeof store, &len, entries, 4, letters, 300, &start, &end) == 0);
+    HOLD(len == 300 && entries[0] == 256 && entries[1] == 44 && entries[2] == 9);
+    /* one more flag, in a byte of its own: four gap flags before it, which are set */
+    HOLD(tsiv_flags_push_seq_counted(store, sizeof store, &len, entries, 4, store, 49, 0, 1, &start, &end) == 0);
+    HOLD(start == 304 && len == 305 && entries[1] == 49 && entries[0] == 256);
+    HOLD(tsiv_flags_count(store, sizeof store, len, entries, 4, 0, 305, &total) == 0 && total == 305);
+    HOLD(tsiv_flags_count(store, sizeof store, len, entries, 4, 1, 305, &total) == 0 && total == 304);
+    /* a wrong entry: a query goes by it where its block lies in the range whole, and a call that touches another block leaves it */
+    entries[0] = 1000, entries[1] = 1000;
+    HOLD(tsiv_flags_count(store, sizeof store, len, entries, 4, 0, 305, &total) == 0 && total == 1049);
+    HOLD(tsiv_flags_overwrite_counted(store, sizeof store, &len, entries, 4, 256, (const uint8_t *)"A", 1) == 0);
+    HOLD(entries[0] == 1000 && entries[1] == 48);
+    /* a cut to 256 leaves one block: one entry is enough, and none is counted */
+    total = 7;
+    HOLD(tsiv_flags_count(store, sizeof store, len, entries, 1, 0, 305, &total) == TSIV_NO_ROOM && total == 0);
+    HOLD(tsiv_flags_cut_counted(store, sizeof store, &len, entries, 0, 256) == TSIV_NO_ROOM && len == 305);
+    HOLD(tsiv_flags_cut_counted(store, sizeof store, &len, entries, 1, 256) == 0 && len == 256);
+    HOLD(entries[0] == 1000 && entries[1] == 48);
+    /* a push of nothing is judged, and mends nothing */
+    HOLD(tsiv_flags_push_ascii_counted(store, sizeof store, &len, entries, 0, NULL, 0, &start, &end) == TSIV_NO_ROOM);
+    HOLD(tsiv_flags_push_ascii_counted(store, sizeof store, &len, entries, 1, NULL, 0, &start, &end) == 0);
+    HOLD(entries[0] == 1000 && start == 256 && end == 256);
+    total = 7;
+    HOLD(tsiv_flags_count(store, sizeof store, len, entries, 4, 5, 4, &total) == TSIV_BAD_RANGE && total == 0);
+    HOLD(tsiv_flags_count(store, sizeof store, len, entries, 4, 0, 257, &total) == TSIV_BAD_RANGE);
+    HOLD(tsiv_flags_count(store, sizeof store, len, entries, 4, 4, 4, &total) == 0 && total == 0);
+    HOLD(tsiv_flags_clear_counted(store, sizeof store, &len, entries, 0) == 0 && len == 0 && entries[0] == 1000);
 }
 
 /* 2^28 bytes are taken, and one more is refused, in every call that has the limit. */
@@ -215,10 +264,28 @@ static void too_long(void)
     HOLD(tsiv_flags_fill_windows(big, more, 0, 1, 1, 1, 0, NULL, 0, &a, &b) == TSIV_TOO_LONG);
     a = 0;
     HOLD(tsiv_flags_step_windows(big, more, 0, 1, 1, 1, counts, &a, lanes) == TSIV_TOO_LONG && a == 0);
+    HOLD(tsiv_flags_clear_counted(big, more, &len, NULL, 0) == TSIV_TOO_LONG && len == 0);
+    HOLD(tsiv_flags_push_ascii_counted(big, more, &len, NULL, 0, out, 1, &a, &b) == TSIV_TOO_LONG);
+    HOLD(tsiv_flags_push_seq_counted(big, more, &len, NULL, 0, out, 64, 0, 1, &a, &b) == TSIV_TOO_LONG);
+    HOLD(tsiv_flags_push_seq_counted(out, 64, &len, NULL, 0, big, more, 0, 1, &a, &b) == TSIV_TOO_LONG);
+    HOLD(tsiv_flags_overwrite_counted(big, more, &len, NULL, 0, 0, out, 0) == TSIV_TOO_LONG);
+    HOLD(tsiv_flags_cut_counted(big, more, &len, NULL, 0, 0) == TSIV_TOO_LONG);
+    HOLD(tsiv_flags_count(big, more, 0, NULL, 0, 0, 0, &word) == TSIV_TOO_LONG);
     HOLD(tsiv_form_write(big, more, 0, 1, out, 64, 0, 1, out + 50, 14, &a) == TSIV_TOO_LONG);
     HOLD(tsiv_form_read(big, more, out, 64, NULL, 0, &len) == TSIV_TOO_LONG);
     HOLD(tsiv_form_read(out, 64, big, more, NULL, 0, &len) == TSIV_TOO_LONG);
     HOLD(tsiv_form_read(out, 64, NULL, 0, big, more, &len) == TSIV_TOO_LONG && len == 0);
+    /* the longest store of flags, and all entries wrong: the largest sum */
+    const size_t flags = (most - 48) * 8, blocks = TSIV_COUNTS_ROOM(flags);
+    uint16_t *entries = (uint16_t *)malloc(blocks * sizeof *entries);
+    HOLD(entries != NULL);
+    if (entries != NULL) {
+        memset(big, 0xFF, most - 48);
+        memset(entries, 0xFF, blocks * sizeof *entries);
+        HOLD(tsiv_flags_count(big, most, flags, entries, blocks, 0, flags, &word) == 0 && word == 549747294338);
+        HOLD(tsiv_flags_count(big, most, flags, entries, blocks - 1, 0, flags, &word) == TSIV_NO_ROOM && word == 0);
+        free(entries);
+    }
     free(big);
 }
 
@@ -248,6 +315,7 @@ int main(void)
     worked();
     nulls();
     windows();
+    counts();
     too_long();
     no_room();
     printf("face: %u passed, %u failed\n", passed, failed);

@@ -5,65 +5,10 @@
  *     read FORM ROOM ROOM                              the number, the length, both whole buffers
  *     long N HEAD                                      the form of N characters made here: "fine", or the numbers of both refusals
  *
- * Bytes are their count and their hexadecimal digits, or "-" for none. A buffer is 238 throughout before the call.
+ * A buffer is 238 throughout before the call.
  */
-#include <inttypes.h>
-#include <stdio.h>
-#include <stdlib.h>
-#include <string.h>
+#include "cases.h"
 #include <tsivelaro.h>
-
-struct bytes {
-    uint8_t *at;
-    size_t size;
-};
-
-static void stop(const char *why)
-{
-    fprintf(stderr, "form: %s\n", why);
-    exit(2);
-}
-
-static struct bytes room(size_t size, int byte)
-{
-    struct bytes b = {malloc(size ? size : 1), size};
-    if (!b.at)
-        stop("no memory");
-    return memset(b.at, byte, size), b;
-}
-
-static size_t number(void)
-{
-    uint64_t n;
-    if (scanf("%" SCNu64, &n) != 1)
-        stop("no number");
-    return n;
-}
-
-static uint8_t digit(int c) { return (uint8_t)(c <= '9' ? c - '0' : c - 'a' + 10); }
-
-static struct bytes bytes(void)
-{
-    struct bytes b = room(number(), 0);
-    getchar(); /* the space */
-    if (!b.size)
-        getchar(); /* the "-" */
-    for (size_t i = 0; i < b.size; i++) {
-        int high = getchar();
-        b.at[i] = (uint8_t)(digit(high) << 4 | digit(getchar()));
-    }
-    return b;
-}
-
-static void print(struct bytes b)
-{
-    printf(" %zu ", b.size);
-    for (size_t i = 0; i < b.size; i++)
-        putchar("0123456789abcdef"[b.at[i] >> 4]), putchar("0123456789abcdef"[b.at[i] & 15]);
-    if (!b.size)
-        putchar('-');
-    free(b.at);
-}
 
 static void asked_write(void)
 {
@@ -75,7 +20,7 @@ static void asked_write(void)
     uint32_t no = tsiv_form_write(bases.at, bases.size, o, n, flags.at, flags.size, r, m, out.at, out.size, &written);
     printf("%u %zu", no, written);
     print(out);
-    free(bases.at), free(flags.at);
+    free(bases.at), free(flags.at), free(out.at);
 }
 
 static void asked_read(void)
@@ -87,7 +32,7 @@ static void asked_read(void)
     uint32_t no = tsiv_form_read(form.at, form.size, bases.at, bases.size, flags.at, flags.size, &len);
     printf("%u %zu", no, len);
     print(bases), print(flags);
-    free(form.at);
+    free(form.at), free(bases.at), free(flags.at);
 }
 
 /* Tracks of n characters: a C, a G and a set flag at both ends and between, zeros elsewhere. */

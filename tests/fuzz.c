@@ -376,6 +376,83 @@ static void stores(size_t w)
     changed(s, from, to);
 }
 
+/* The set flags from one character up to another, flag by flag. */
+static uint64_t set(const struct buffer *s, size_t from, size_t to)
+{
+    uint64_t total = 0;
+    for (size_t i = from; i < to; i++)
+        total += character(1, s->bytes, i);
+    return total;
+}
+
+static uint16_t *counts_of(struct buffer *b) { return (uint16_t *)(void *)b->bytes; }
+
+/* Stores of flags with their counts: entries of the blocks of the new length that have a touched character are counted, all others stay. */
+static void counts(void)
+{
+    struct buffer *s = make(below(8) ? 48 + below(140) : below(60)), *e = make(2 * below(8)), *v = input(below(120)),
+                  *l = input(below(3) ? below(300) : 0);
+    size_t room = s->size < 48 ? 0 : (s->size - 48) * 8, few = e->size / 2;
+    size_t *len = CELL(size_t), *a = CELL(size_t), *b = CELL(size_t), o, n, from = 0, to = 0, first, last = 0;
+    uint64_t *total = CELL(uint64_t);
+    uint32_t no;
+    view(1, v->size, &o, &n);
+    size_t old = *len = below(4) ? below(room + 1) : number(room), m = number(old), end = number(old);
+    first = old;
+#define COUNTED s->bytes, s->size, len, counts_of(e), few
+    switch (below(6)) {
+    case 0:
+        ASK(flags_clear_counted, COUNTED);
+        to = no ? 0 : 48;
+        old = 0;
+        break;
+    case 1:
+        ZERO(ASK(flags_push_ascii_counted, COUNTED, l->bytes, l->size, a, b), *a | *b);
+        from = old / 8, to = no || !l->size ? 0 : up(1, *len) + 48;
+        last = *len;
+        break;
+    case 2:
+        ZERO(ASK(flags_push_seq_counted, COUNTED, VIEW, a, b), *a | *b);
+        from = old / 8, to = no ? 0 : up(1, *len) + 48;
+        last = *len;
+        break;
+    case 3:
+        ASK(flags_overwrite_counted, COUNTED, m, l->bytes, l->size);
+        from = m / 8, to = no || !l->size ? 0 : up(1, m + l->size);
+        first = m, last = no ? 0 : m + l->size;
+        break;
+    case 4:
+        ASK(flags_cut_counted, COUNTED, m);
+        from = m / 8, to = no ? 0 : up(1, m) + 48;
+        first = m, last = no ? 0 : old;
+        break;
+    default:
+        ZERO(ASK(flags_count, s->bytes, s->size, *len, counts_of(e), few, m, end, total), *total);
+        if (!no) {
+            size_t whole = (m + 255) / 256, stop = end / 256;
+            uint64_t sum = whole < stop ? set(s, m, 256 * whole) + set(s, 256 * stop, end) : set(s, m, end);
+            for (; whole < stop; whole++)
+                sum += counts_of(e)[whole];
+            if (sum != *total)
+                fail("a wrong count");
+        }
+    }
+    if (no && *len != old)
+        fail("a refused call moved the length");
+    if (!no && few < TSIV_COUNTS_ROOM(*len))
+        fail("done with too few entries");
+    changed(s, from, to);
+    if (no || first >= last)
+        return;
+    /* blocks of the new length that have a character from first up to last */
+    size_t low = first / 256, high = TSIV_COUNTS_ROOM(last < *len ? last : *len);
+    for (size_t i = low; i < high; i++)
+        if (counts_of(e)[i] != set(s, 256 * i, 256 * i + 256 < *len ? 256 * i + 256 : *len))
+            fail("an entry of a touched block is wrong");
+    if (low < high)
+        changed(e, 2 * low, 2 * high);
+}
+
 /* A buffer of entries, which lies on their alignment. */
 static uint32_t *entries(struct buffer *b) { return (uint32_t *)(void *)b->bytes; }
 
@@ -491,13 +568,14 @@ int main(int argc, char **argv)
     signal(SIGBUS, fault);
     for (turn = 0; turn < turns; turn++) {
         size_t w = 1 + below(2);
-        switch (below(7)) {
+        switch (below(8)) {
         case 0: letters_and_words(); break;
         case 1: one_view(w); break;
         case 2: two_views(w); break;
         case 3: stores(w); break;
-        case 4:
-        case 5: streams(w); break;
+        case 4: counts(); break;
+        case 5:
+        case 6: streams(w); break;
         default: forms();
         }
         settle();
@@ -513,5 +591,5 @@ int main(int argc, char **argv)
     }
     printf("fuzz: %lu calls of %lu kinds, %lu done, %lu refused; %lu failures\n", done + refused, kinds, done, refused,
            failures);
-    return failures || lacking || kinds != 71;
+    return failures || lacking || kinds != 77;
 }

@@ -4,7 +4,7 @@ import glob
 import re
 import sys
 
-WORDS = {"u8": "uint8_t", "u32": "uint32_t", "u64": "uint64_t", "i32": "int32_t", "usize": "size_t", "bool": "bool"}
+WORDS = {"u8": "uint8_t", "u16": "uint16_t", "u32": "uint32_t", "u64": "uint64_t", "i32": "int32_t", "usize": "size_t", "bool": "bool"}
 # What crates/abi calls the numbers of two views: a's offset, and so on.
 SHORT = {f"{name[0]}{word[0]}": f"{name}_{word}" for name in ("a", "b", "pattern", "text") for word in ("offset", "len")}
 FUNCTION = r"\bfn\s+(tsiv_\w+)\s*\(([^()]*)\)\s*->\s*(\w+)"

@@ -1,6 +1,6 @@
 /*
- * Calls that are wrong on purpose, each over the right one (the linker's --wrap): tests/run-fuzz and tests/run-form link one at a time, and
- * must find it.
+ * Calls that are wrong on purpose, each over the right one (the linker's --wrap): tests/run-fuzz, tests/run-form and tests/run-counts link
+ * one at a time, and must find it.
  */
 #include <tsivelaro.h>
 
@@ -94,4 +94,70 @@ OVER(form_write, const uint8_t *bases, size_t bases_size, size_t base_offset, si
         out[*written - 1] ^= 1;
     return no;
 }
+#elif defined KEEPS_THE_OLD_BLOCK
+/* The block in which the old length ends is not counted again. */
+OVER(flags_push_ascii_counted, uint8_t *buffer, size_t size, size_t *len, uint16_t *entries, size_t entries_size,
+     const uint8_t *letters, size_t letters_size, size_t *start, size_t *end)
+{
+    size_t b = *len / 256, kept = *len % 256 && b < entries_size ? entries[b] : 65536;
+    uint32_t no =
+        REAL(flags_push_ascii_counted)(buffer, size, len, entries, entries_size, letters, letters_size, start, end);
+    if (kept < 65536)
+        entries[b] = (uint16_t)kept;
+    return no;
+}
+#elif defined WANTS_ONE_MORE
+OVER(flags_push_ascii_counted, uint8_t *buffer, size_t size, size_t *len, uint16_t *entries, size_t entries_size,
+     const uint8_t *letters, size_t letters_size, size_t *start, size_t *end)
+{
+    size_t few =
+        entries_size && entries_size == TSIV_COUNTS_ROOM(*len + letters_size) ? entries_size - 1 : entries_size;
+    return REAL(flags_push_ascii_counted)(buffer, size, len, entries, few, letters, letters_size, start, end);
+}
+#elif defined COUNTS_REFUSED
+OVER(flags_overwrite_counted, uint8_t *buffer, size_t size, size_t *len, uint16_t *entries, size_t entries_size,
+     size_t start, const uint8_t *letters, size_t letters_size)
+{
+    uint32_t no = REAL(flags_overwrite_counted)(buffer, size, len, entries, entries_size, start, letters, letters_size);
+    if (no && entries_size)
+        entries[0] = 0;
+    return no;
+}
+#elif defined ZEROES_BEHIND
+OVER(flags_cut_counted, uint8_t *buffer, size_t size, size_t *len, uint16_t *entries, size_t entries_size, size_t m)
+{
+    uint32_t no = REAL(flags_cut_counted)(buffer, size, len, entries, entries_size, m);
+    for (size_t b = TSIV_COUNTS_ROOM(*len); !no && b < entries_size; b++)
+        entries[b] = 0;
+    return no;
+}
+#elif defined MENDS_UNTOUCHED || defined TRUSTS_THE_LAST
+/* The set flags of the partial block in which a length ends. */
+static uint64_t partial(const uint8_t *buffer, size_t len)
+{
+    uint64_t total = 0;
+    for (size_t i = len / 256 * 256; i < len; i++)
+        total += buffer[i / 8] >> i % 8 & 1;
+    return total;
+}
+#if defined MENDS_UNTOUCHED
+/* A cut to the length itself counts its last block. */
+OVER(flags_cut_counted, uint8_t *buffer, size_t size, size_t *len, uint16_t *entries, size_t entries_size, size_t m)
+{
+    uint32_t no = REAL(flags_cut_counted)(buffer, size, len, entries, entries_size, m);
+    if (!no && m % 256)
+        entries[m / 256] = (uint16_t)partial(buffer, m);
+    return no;
+}
+#else
+/* The entry of the partial last block counts where a range reaches the end. */
+OVER(flags_count, const uint8_t *buffer, size_t size, size_t len, const uint16_t *entries, size_t entries_size,
+     size_t start, size_t end, uint64_t *total)
+{
+    uint32_t no = REAL(flags_count)(buffer, size, len, entries, entries_size, start, end, total);
+    if (!no && end == len && len % 256 && start <= len / 256 * 256)
+        *total += entries[len / 256] - partial(buffer, len);
+    return no;
+}
+#endif
 #endif

@@ -1,8 +1,10 @@
 //! Ours against the original, both optimised, on the same inputs, turn by turn in one process.
 //!
 //! Prints the ratio of ours to the original for each job: the median of its rounds, and the least and the largest; and both times. Jobs
-//! that the original has no call for have our time alone. No job is timed before its results were held to be right.
+//! that the original has no call for have our time alone, and those of counts ours with entries against ours without. No job is timed before
+//! its results were held to be right.
 
+mod counts;
 mod job;
 mod packing;
 mod streams;
@@ -18,6 +20,7 @@ fn main() -> Result<(), Refusal> {
     job::head();
     let text = letters(1);
     packing::jobs(&text)?;
+    counts::jobs(&text)?;
     views::jobs(&text)?;
     streams::jobs(&text)
 }

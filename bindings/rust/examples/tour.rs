@@ -1,6 +1,6 @@
-//! Pack a read, reverse it, compare, glue, store, read back.
+//! Pack a read, reverse it, compare, glue, store, read back, count a stretch's flags.
 
-use tsivelaro::{bases, flags, form, Chars, Refusal};
+use tsivelaro::{bases, counts, flags, form, Chars, Refusal};
 
 fn main() -> Result<(), Refusal> {
     let read = b"ACGTNACG";
@@ -29,6 +29,15 @@ fn main() -> Result<(), Refusal> {
     let len = form::read(&stored[..size], &mut base_again, &mut flag_again)?;
     let again = bases::View::new(&base_again, Chars(0), len)?;
     println!("read back {}", again.eq(track.view())?);
+
+    let (mut count_buffer, mut entries) = ([0; 64], [0; 1]);
+    let mut counted = counts::Store::clear(&mut count_buffer, &mut entries)?;
+    counted.push_ascii(b"ACNNGTN")?;
+    let stretch = counted.count(Chars(1), Chars(4))?;
+    println!(
+        "ambiguous {:?} in all, {stretch} from 1 to 4",
+        counted.entries()
+    );
 
     match track.cut(Chars(9)) {
         Err(refusal) => println!("refused {} {refusal}", refusal.number()),

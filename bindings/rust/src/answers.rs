@@ -26,7 +26,7 @@ pub enum Refusal {
     BadForm = 7,
     /// Stream numbers outside their ranges.
     BadStream = 8,
-    /// An output buffer is shorter than the answer needs.
+    /// An output buffer is shorter than the answer needs, or there are fewer entries than a store has blocks.
     NoRoom = 9,
 }
 
@@ -97,6 +97,22 @@ pub struct Pushed {
     pub end: Chars,
     /// The store's length.
     pub len: Chars,
+}
+
+impl Pushed {
+    /// What a push gave, where its number is 0.
+    pub(crate) fn check(
+        number: u32,
+        start: usize,
+        end: usize,
+        len: Chars,
+    ) -> Result<Self, Refusal> {
+        Refusal::check(number).map(|()| Pushed {
+            start: Chars(start),
+            end: Chars(end),
+            len,
+        })
+    }
 }
 
 /// The numbers of a stream.

@@ -19,6 +19,7 @@
 #![warn(missing_docs)]
 
 mod answers;
+pub mod counts;
 pub mod form;
 pub mod letters;
 mod sys;

@@ -6,6 +6,7 @@ extern "C" {
     pub fn tsiv_version() -> u32;
     pub fn tsiv_bases_room(n: usize) -> usize;
     pub fn tsiv_flags_room(n: usize) -> usize;
+    pub fn tsiv_counts_room(n: usize) -> usize;
     pub fn tsiv_form_room(n: usize) -> usize;
     pub fn tsiv_lanes_room(steps: usize) -> usize;
     pub fn tsiv_pack_char(byte: u8, code: &mut u8) -> u32;
@@ -63,6 +64,12 @@ extern "C" {
     pub fn tsiv_flags_overwrite(buffer: *mut u8, buffer_size: usize, len: &mut usize, start: usize, letters: *const u8, letters_size: usize) -> u32;
     pub fn tsiv_bases_cut(buffer: *mut u8, buffer_size: usize, len: &mut usize, m: usize) -> u32;
     pub fn tsiv_flags_cut(buffer: *mut u8, buffer_size: usize, len: &mut usize, m: usize) -> u32;
+    pub fn tsiv_flags_clear_counted(buffer: *mut u8, buffer_size: usize, len: &mut usize, entries: *mut u16, entries_size: usize) -> u32;
+    pub fn tsiv_flags_push_ascii_counted(buffer: *mut u8, buffer_size: usize, len: &mut usize, entries: *mut u16, entries_size: usize, letters: *const u8, letters_size: usize, start: &mut usize, end: &mut usize) -> u32;
+    pub fn tsiv_flags_push_seq_counted(buffer: *mut u8, buffer_size: usize, len: &mut usize, entries: *mut u16, entries_size: usize, bytes: *const u8, bytes_size: usize, offset: usize, count: usize, start: &mut usize, end: &mut usize) -> u32;
+    pub fn tsiv_flags_overwrite_counted(buffer: *mut u8, buffer_size: usize, len: &mut usize, entries: *mut u16, entries_size: usize, start: usize, letters: *const u8, letters_size: usize) -> u32;
+    pub fn tsiv_flags_cut_counted(buffer: *mut u8, buffer_size: usize, len: &mut usize, entries: *mut u16, entries_size: usize, m: usize) -> u32;
+    pub fn tsiv_flags_count(buffer: *const u8, buffer_size: usize, len: usize, entries: *const u16, entries_size: usize, start: usize, end: usize, total: &mut u64) -> u32;
     pub fn tsiv_bases_shape(len: usize, context: usize, factor: usize, lane: &mut usize, steps: &mut usize, padding: &mut usize) -> u32;
     pub fn tsiv_flags_shape(len: usize, context: usize, factor: usize, lane: &mut usize, steps: &mut usize, padding: &mut usize) -> u32;
     pub fn tsiv_bases_fill(bytes: *const u8, bytes_size: usize, offset: usize, len: usize, context: usize, factor: usize, out: *mut u32, out_size: usize, steps: &mut usize, padding: &mut usize) -> u32;

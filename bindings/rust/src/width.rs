@@ -453,14 +453,6 @@ macro_rules! width {
                     View::unasked(self.buffer, Chars(0), self.len)
                 }
 
-                fn pushed(&self, number: u32, start: usize, end: usize) -> Result<Pushed, Refusal> {
-                    Refusal::check(number).map(|()| Pushed {
-                        start: Chars(start),
-                        end: Chars(end),
-                        len: self.len,
-                    })
-                }
-
                 /// Puts the codes of letters at the end.
                 pub fn push_ascii(&mut self, letters: &[u8]) -> Result<Pushed, Refusal> {
                     let (mut start, mut end) = (0, 0);
@@ -471,7 +463,7 @@ macro_rules! width {
                             letters.as_ptr(), letters.len(), &mut start, &mut end,
                         )
                     };
-                    self.pushed(number, start, end)
+                    Pushed::check(number, start, end, self.len)
                 }
 
                 /// Puts a view behind, in a byte of its own.
@@ -485,7 +477,7 @@ macro_rules! width {
                             &mut start, &mut end,
                         )
                     };
-                    self.pushed(number, start, end)
+                    Pushed::check(number, start, end, self.len)
                 }
 
                 /// Puts the codes of letters over those from `start` on.

@@ -22,6 +22,8 @@ use Rattle.abi.proofs.rooms.tsiv_bases_room.Kinds as bases-room·kinds
 use Rattle.abi.proofs.rooms.tsiv_bases_room.Reads as bases-room
 use Rattle.abi.proofs.rooms.tsiv_flags_room.Kinds as flags-room·kinds
 use Rattle.abi.proofs.rooms.tsiv_flags_room.Reads as flags-room
+use Rattle.abi.proofs.rooms.tsiv_counts_room.Kinds as counts-room·kinds
+use Rattle.abi.proofs.rooms.tsiv_counts_room.Reads as counts-room
 use Rattle.abi.proofs.rooms.tsiv_form_room.Kinds as form-room·kinds
 use Rattle.abi.proofs.rooms.tsiv_form_room.Reads as form-room
 use Rattle.abi.proofs.rooms.tsiv_lanes_room.Kinds as lanes-room·kinds
@@ -81,6 +83,9 @@ bases-room-decided κs a x y v w p q = let e = p ∙ sym q in λ i. (e i, skip 1
 
 pub flags-room-decided : Once 0 flags-room·kinds.ps flags-room·kinds.r flags-room.Post
 flags-room-decided κs a x y v w p q = let e = p ∙ sym q in λ i. (e i, skip 1 tt)
+
+pub counts-room-decided : Once 0 counts-room·kinds.ps counts-room·kinds.r counts-room.Post
+counts-room-decided κs a x y v w p q = let e = p ∙ sym q in λ i. (e i, skip 1 tt)
 
 pub form-room-decided : Once 0 form-room·kinds.ps form-room·kinds.r form-room.Post
 form-room-decided κs a x y v w p q = let e = p ∙ sym q in λ i. (e i, skip 1 tt)

@@ -1,3 +1,4 @@
 pub mod DecidedBases
 pub mod DecidedFlags
 pub mod DecidedPlain
+pub mod DecidedCounts

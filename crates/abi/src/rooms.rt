@@ -1,11 +1,13 @@
 // The sizes that a caller needs before a call, and the version.
 use codes::units::Chars;
 use codes::units::TRAILING;
+use counts::inner::blocks::blocks_of;
 use forms::inner::numbers::spelt_size;
 ghost use mathlib.Core.Path.{_≡_};
 ghost use Prim.Native.Nat.{_+_, _-_, _*_, _^_, min};
 ghost use lib.ListN.{length};
 ghost use Rattle.codes.specs.Codes.{up, trailing};
+ghost use Rattle.counts.specs.Blocks.{blocks};
 ghost use Rattle.forms.specs.Forms.{formSize};
 ghost use Rattle.forms.specs.Numbers.{spelt};
 
@@ -23,6 +25,14 @@ pub extern "C" fn tsiv_flags_room(n: usize) -> usize
     ensures { λ r. ⌜ r ≡ up 1 n + trailing ⌝ }
 {
     Chars::new(n).bytes_as_flags().count() + TRAILING
+}
+
+// The entries beside a store of n flags.
+#[no_mangle]
+pub extern "C" fn tsiv_counts_room(n: usize) -> usize
+    ensures { λ r. ⌜ r ≡ blocks n ⌝ }
+{
+    blocks_of(n)
 }
 
 // The bytes that n itself takes in a form.

@@ -2,12 +2,13 @@
 -- Assumes nothing.
 use mathlib.Core.List.{List, _++_, map, reverse}
 use mathlib.Core.Path.{_≡_, sym, ap, ap₂, _∙_, subst}
-use Prim.Native.Nat.{ℕ, _+_, _-_, _*_, _/_, _%_, _^_, _<_}
+use Prim.Native.Nat.{ℕ, _+_, _-_, _*_, _/_, _%_, _^_, _<_, min}
 use native.Mathlib.Nat.{add-assoc, zero-add, mod-lt, mod-eq-of-lt, div-add-mod', div-lt-iff-lt-mul, lt-of-lt-of-le}
+use native.Mathlib.Omega.{arith}
 use lib.Arith.{digits-lt, digits-div, digits-mod}
-use lib.ListN.{length, getD}
+use lib.ListN.{length, getD, take, length-take, length-drop}
 use lib.Pow.{pow-pos}
-use lib.Seq.{ext-getD}
+use lib.Seq.{ext-getD, getD-take, getD-drop, slice}
 use Rattle.codes.specs.Codes.{per, up, IsWidth, charAt, tab, chars}
 use Rattle.codes.specs.Words.{word, flip, pack, packed}
 use Rattle.codes.proofs.TabLaws.{length-tab, getD-tab, tab-ext, tab-append, Below-tab, Below-getD, word-at, charsOf-tab}
@@ -36,6 +37,19 @@ chars-append w bs o m n =
 pub chars-ext : (w : ℕ) (xs bs : List ℕ) (o p n : ℕ) → ((i : ℕ) → i < n → charAt w xs (o + i) ≡ charAt w bs (p + i)) → chars w xs o n ≡ chars w bs p n
 unfolding chars
 chars-ext w xs bs o p n h = tab-ext n (λ i. charAt w xs (o + i)) (λ i. charAt w bs (p + i)) h
+
+-- a part of characters
+pub chars-slice : (w : ℕ) (bs : List ℕ) (o n from to : ℕ) → slice from to (chars w bs o n) ≡ chars w bs (o + from) (min to n - from)
+chars-slice w bs o n from to =
+    let cs : List ℕ = chars w bs o n in
+    let long : length (slice from to cs) ≡ min to n - from = length-drop from (take to cs) ∙ ap (λ (x : ℕ). x - from) (length-take to cs ∙ ap (min to) (length-chars w bs o n)) in
+    ext-getD 0 (slice from to cs) (chars w bs (o + from) (min to n - from)) (long ∙ sym (length-chars w bs (o + from) (min to n - from)))
+    (λ i l.
+    let h : i < min to n - from = subst (λ (x : ℕ). i < x) long l in
+    getD-drop from (take to cs) i 0
+    ∙ getD-take to cs (from + i) 0 (omega arith)
+    ∙ getD-chars w bs o n (from + i) (omega arith)
+    ∙ sym (getD-chars w bs (o + from) (min to n - from) i h ∙ ap (charAt w bs) (add-assoc o from i)))
 
 pub charAt-lt : (w : ℕ) (bs : List ℕ) (i : ℕ) → charAt w bs i < 2 ^ w
 unfolding charAt

@@ -6,7 +6,8 @@ use Prim.Native.Nat.{ℕ, suc, _≤_, _<_}
 use lib.ListN.{length}
 use Rattle.codes.specs.Codes.{chars}
 use Rattle.codes.proofs.WidthLaws.{below-or}
-use Rattle.rows.specs.Columns.{decimal, setFlags, strandOf, columns}
+use Rattle.fields.specs.Flags.{setFlags}
+use Rattle.rows.specs.Columns.{decimal, strandOf, columns}
 use Rattle.fasta.specs.Report.{ambiguous, strand, row, body, rowOf}
 use Rattle.fasta.specs.Records.{ordinal, ambiguousIn, strandIn, rowFrom}
 use Rattle.fasta.specs.declared.reader.Record.{Record}

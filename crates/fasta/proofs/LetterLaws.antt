@@ -4,10 +4,10 @@ use mathlib.Core.List.{List, [], _∷_, map}
 use mathlib.Core.Path.{_≡_, refl, ap}
 use Prim.Native.Nat.{ℕ, _+_}
 use Rattle.codes.specs.Codes.{flag}
-use Rattle.rows.specs.Columns.{setFlags}
+use Rattle.fields.specs.Flags.{sum, setFlags}
 use Rattle.fasta.specs.Report.{ambiguous}
 
 pub flags-ambiguous : (ls : List ℕ) → setFlags (map flag ls) ≡ ambiguous ls
-unfolding setFlags ambiguous
+unfolding sum ambiguous
 flags-ambiguous [] = refl
 flags-ambiguous (x ∷ ls) = ap (λ (n : ℕ). flag x + n) (flags-ambiguous ls)

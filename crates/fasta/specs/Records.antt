@@ -5,7 +5,8 @@ use Prim.Native.Nat.{ℕ, _+_, _%_, _^_}
 use lib.Dec.{ltb}
 use Rattle.codes.specs.Codes.{pick, chars}
 use Rattle.writes.specs.Writes.{flippedOver}
-use Rattle.rows.specs.Columns.{setFlags, strandOf}
+use Rattle.fields.specs.Flags.{setFlags}
+use Rattle.rows.specs.Columns.{strandOf}
 use Rattle.fasta.specs.Report.{rowOf, totalOf}
 use Rattle.fasta.specs.declared.reader.Record.{Record}
 

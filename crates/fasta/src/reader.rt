@@ -16,7 +16,7 @@ ghost use Rattle.fasta.specs.Buffers.{onto, trackAfter, otherAfter, othe
 // The bytes of a buffer for 16,384 bases, for 16,384 flags, and for what a call writes.
 pub const BASES: usize = rows::inner::strands::BASES;
 
-pub const FLAGS: usize = rows::inner::counts::FLAGS;
+pub const FLAGS: usize = 2096;
 
 pub const OUT: usize = 96;
 

@@ -2,7 +2,7 @@
 use crate::reader::BASES;
 use crate::reader::FLAGS;
 use crate::reader::Record;
-use rows::inner::counts::set_flags;
+use fields::inner::flags::set_flags;
 use rows::inner::puts::put_byte;
 use rows::inner::puts::put_columns;
 use rows::inner::puts::put_decimal;
@@ -33,7 +33,7 @@ fn put_body(
     if 16384 < count {
         return put_text(b"too-long", out, at);
     }
-    let ambiguous = set_flags(flags, count);
+    let ambiguous = set_flags(flags, 0, count);
     let mark = strand(bases, count, other);
     put_columns(count, ambiguous, mark, out, at)
 }

@@ -1,3 +1,4 @@
 pub mod ViewLaws
 pub mod LoadLaws
 pub mod Lowest
+pub mod FlagLaws

@@ -1,3 +1,4 @@
 pub mod Fields
 pub mod Spans
 pub mod Answers
+pub mod Flags

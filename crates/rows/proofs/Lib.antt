@@ -1,4 +1,3 @@
 pub mod SetsLaws
 pub mod DecimalLaws
-pub mod FlagLaws
 pub mod StrandLaws

@@ -1,4 +1,4 @@
--- The columns of a row: decimal numbers, set flags and the strand; and bytes put into a buffer.
+-- The columns of a row: decimal numbers and the strand; and bytes put into a buffer.
 -- Assumes nothing.
 use mathlib.Core.List.{List, [], _∷_, _++_}
 use mathlib.Core.Path.{_≡_}
@@ -19,11 +19,6 @@ decimalIn (suc k) n = pick (ltb n 10) ((48 + n) ∷ []) (decimalIn k (n / 10) ++
 
 abbrev pub decimal : ℕ → List ℕ
 decimal = decimalIn 20
-
--- how many of a list of flags are set
-unfoldable pub setFlags : List ℕ → ℕ
-setFlags [] = 0
-setFlags (c ∷ cs) = c + setFlags cs
 
 -- `<`, `=` or `>`
 abbrev pub sign : Order → ℕ

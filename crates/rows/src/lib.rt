@@ -1,2 +1,2 @@
-// What a row of the report is made of: bytes put into a lent buffer, decimal numbers, set flags counted, and the strand.
+// What a row of the report is made of: bytes put into a lent buffer, decimal numbers, and the strand.
 pub mod inner;

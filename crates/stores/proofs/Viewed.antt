@@ -19,7 +19,7 @@ unfolding outcome
 judged w size len bs o n e = let t = view-passed w (length bs) o n e in rw (t .0, t .1)
 
 module _ {w : ℕ} {bs : List ℕ} {o m : ℕ} {cs : List ℕ} {p n : ℕ} (s : Same w bs o m cs p n) (within : o % per w ≡ p % per w) (len : ℕ) where
-  outcome-viewed : (size : ℕ) → outcome w size len (pushSeq bs o m) ≡ outcome w size len (pushSeq cs p n)
+  pub outcome-viewed : (size : ℕ) → outcome w size len (pushSeq bs o m) ≡ outcome w size len (pushSeq cs p n)
   outcome-viewed size =
       judged w size len bs o m (s .left)
       ∙ (λ i. first (tooLong size ∷ badStore w size len ∷ noStore w size (up w len * per w + within i + long s i) ∷ []))

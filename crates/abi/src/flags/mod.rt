@@ -1,4 +1,5 @@
 // Flags: every call at width 1.
+pub mod count;
 pub mod pair;
 pub mod store;
 pub mod stream;

@@ -4,6 +4,7 @@ use codes::refusals::Outcome;
 use codes::refusals::Refusal;
 use codes::words::Word;
 use codes::words::Word128;
+use counts::answers::Count;
 use forms::answers::Restored;
 use forms::answers::Wrote;
 use order::answers::Compared;
@@ -18,6 +19,7 @@ use streams::answers::Shape;
 ghost use mathlib.Core.Path.{_≡_};
 ghost use Rattle.codes.specs.Answers.{symbolSays, wordSays, word128Says};
 ghost use Rattle.codes.specs.Refusals.{answer, number, numberOf};
+ghost use Rattle.counts.specs.Answers.{countSays};
 ghost use Rattle.given.specs.Face.{said, noPart};
 ghost use Rattle.forms.specs.Answers.{wroteSays, restoredSays};
 ghost use Rattle.order.specs.Answers.{comparedSays, orderedSays, equalitySays, foundSays};
@@ -192,6 +194,21 @@ pub fn kept(answer: Kept, len: &mut usize) -> u32
         }
         Kept::Refused { refusal, len: same } => {
             *len = same.count();
+            refusal_no(refusal)
+        }
+    }
+}
+
+pub fn count(answer: Count, to: &mut u64) -> u32
+    ensures { λ r. ⌜ said r (now (to .exit)) ≡ countSays answer ⌝ }
+{
+    match answer {
+        Count::Is(n) => {
+            *to = n;
+            0
+        }
+        Count::Refused(refusal) => {
+            *to = 0;
             refusal_no(refusal)
         }
     }

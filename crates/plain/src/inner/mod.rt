@@ -1,4 +1,5 @@
 // What the exported functions without a width pass on to.
+pub mod count;
 pub mod form;
 pub mod letters;
 pub mod window;

@@ -1,4 +1,3 @@
 // Functions on lent buffers, which ask something of their callers.
-pub mod counts;
 pub mod puts;
 pub mod strands;

@@ -40,7 +40,7 @@ fn no_room(w: usize, size: usize, n: usize) -> bool
 }
 
 // A push of `count` letters.
-pub(crate) fn letters_outcome(w: usize, size: usize, len: Chars, count: usize) -> Outcome
+pub fn letters_outcome(w: usize, size: usize, len: Chars, count: usize) -> Outcome
     requires { ⌜ IsWidth w ⌝ }
     requires { ⌜ count < 2 ^ 63 ⌝ }
     ensures { λ r. ⌜ r ≡ first (tooLong size ∷ badStore w size (len .0) ∷ noStore w size (len .0 + count) ∷ []) ⌝ }
@@ -58,7 +58,7 @@ pub(crate) fn letters_outcome(w: usize, size: usize, len: Chars, count: usize) -
 }
 
 // An overwrite of `count` characters from `start` on, or a cut to `count` from 0 on.
-pub(crate) fn end_outcome(w: usize, size: usize, len: Chars, start: Chars, count: usize) -> Outcome
+pub fn end_outcome(w: usize, size: usize, len: Chars, start: Chars, count: usize) -> Outcome
     requires { ⌜ IsWidth w ⌝ }
     ensures { λ r. ⌜ r ≡ first (tooLong size ∷ badStore w size (len .0) ∷ badEnd (len .0) (start .0 + count) ∷ []) ⌝ }
 {
@@ -80,7 +80,7 @@ pub(crate) fn end_outcome(w: usize, size: usize, len: Chars, start: Chars, count
 }
 
 // The place where a view's characters start.
-pub(crate) fn seq_start(w: usize, len: Chars, offset: Chars) -> usize
+pub fn seq_start(w: usize, len: Chars, offset: Chars) -> usize
     requires { ⌜ IsWidth w ⌝ }
     requires { ⌜ up w (len .0) ≤ 2 ^ 28 ⌝ }
     ensures { λ r. ⌜ r ≡ seqStart w (len .0) (offset .0) ⌝ }
@@ -90,7 +90,7 @@ pub(crate) fn seq_start(w: usize, len: Chars, offset: Chars) -> usize
 }
 
 // A push of `count` characters of a view of `bytes` bytes.
-pub(crate) fn seq_outcome(
+pub fn seq_outcome(
     w: usize,
     size: usize,
     len: Chars,

@@ -39,7 +39,7 @@ returns-2 c =
     let k = c .before .before in
     let t = k .before .before in
     let f = t .before .before in
-    let e = f .before in
+    let e = f .before .before in
     let a = e .before .before .args in (
       put-as (ap₂ (columns (a .kept .count)) (f .set-flags .ensures) (t .strand .ensures .0) ∙ body-short (a .kept .count) _ _ (e .if1 .left)) (k .put-columns .ensures),
       t .strand .ensures .1 ∙ marked-short (a .kept) (a .bases .now) (a .other .now) (e .if1 .left),

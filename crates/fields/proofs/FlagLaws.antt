@@ -3,7 +3,7 @@
 use mathlib.Core.List.{List, [], _∷_, _++_}
 use mathlib.Core.Path.{_≡_, refl, sym, ap, _∙_}
 use Prim.Native.Nat.{ℕ, _+_, _*_, _/_, _%_, _^_, _≤_}
-use native.Mathlib.Nat.{one-mul, zero-add}
+use native.Mathlib.Nat.{one-mul}
 use native.Mathlib.Omega.{arith}
 use lib.Count.{ones, ones-step}
 use lib.ListN.{length}
@@ -13,20 +13,20 @@ use Rattle.codes.proofs.CharLaws.{length-chars, chars-append, chars-fit}
 use Rattle.codes.proofs.FieldLaws.{word-chars}
 use Rattle.codes.proofs.WidthLaws.{width-1}
 use Rattle.codes.proofs.WordLaws.{Below}
-use Rattle.rows.specs.Columns.{setFlags}
+use Rattle.fields.specs.Flags.{sum, setFlags}
 
-flags-append : (a b : List ℕ) → setFlags (a ++ b) ≡ setFlags a + setFlags b
-unfolding setFlags
-flags-append [] b = omega arith
-flags-append (c ∷ a) b = omega (arith, flags-append a b)
+pub sum-append : (a b : List ℕ) → sum (a ++ b) ≡ sum a + sum b
+unfolding sum
+sum-append [] b = omega arith
+sum-append (c ∷ a) b = omega (arith, sum-append a b)
 
 flags-le : (cs : List ℕ) → Below 1 cs → setFlags cs ≤ length cs
-unfolding setFlags
+unfolding sum
 flags-le [] h = omega arith
 flags-le (c ∷ cs) h = omega (arith, h .0, flags-le cs (h .1))
 
 ones-word : (cs : List ℕ) → Below 1 cs → ones (word 1 cs) ≡ setFlags cs
-unfolding setFlags word ones
+unfolding sum word ones
 ones-word [] h = refl
 ones-word (c ∷ cs) h =
     let low : (word 1 cs * 2 ^ 1 + c) % 2 ≡ c = omega (arith, h .0) in
@@ -35,8 +35,8 @@ ones-word (c ∷ cs) h =
 
 module _ (flags : List ℕ) where
   -- more flags, from the place where those counted end
-  pub flags-more : (at n : ℕ) → setFlags (chars 1 flags 0 at) + setFlags (chars 1 flags at n) ≡ setFlags (chars 1 flags 0 (at + n))
-  flags-more at n = sym (ap setFlags (chars-append 1 flags 0 at n ∙ ap (λ (o : ℕ). chars 1 flags 0 at ++ chars 1 flags o n) (zero-add at)) ∙ flags-append (chars 1 flags 0 at) (chars 1 flags at n))
+  pub flags-more : (o m n : ℕ) → setFlags (chars 1 flags o m) + setFlags (chars 1 flags (o + m) n) ≡ setFlags (chars 1 flags o (m + n))
+  flags-more o m n = sym (ap setFlags (chars-append 1 flags o m n) ∙ sum-append (chars 1 flags o m) (chars 1 flags (o + m) n))
 
   pub flags-few : (at n : ℕ) → setFlags (chars 1 flags at n) ≤ n
   flags-few at n = omega (arith, flags-le (chars 1 flags at n) (chars-fit 1 flags at n), length-chars 1 flags at n)

@@ -1,0 +1,14 @@
+pub mod SumLaws
+pub mod BlockLaws
+pub mod CallLaws
+pub mod TouchLaws
+pub mod CountsRight
+pub mod Counted
+pub mod HistoryLaws
+pub mod History
+pub mod AnswerLaws
+pub mod Lowest
+pub mod Viewed
+pub mod Untouched
+pub mod Decided
+pub mod Called

@@ -1,0 +1,3 @@
+// What the public calls are made of. Only these functions ask anything of their callers.
+pub mod blocks;
+pub mod ranges;
