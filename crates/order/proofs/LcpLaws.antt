@@ -90,7 +90,7 @@ module _ {w : ℕ} (W : IsWidth w) where
         omega (arith, f, one)
 
 -- the common length of two views, by the places of their characters
-common-chars : (w : ℕ) (s : List ℕ) (o al : ℕ) (t : List ℕ) (o′ bl r : ℕ) → r ≤ al → r ≤ bl → ((j : ℕ) → j < r → charAt w s (o + j) ≡ charAt w t (o′ + j))
+pub common-chars : (w : ℕ) (s : List ℕ) (o al : ℕ) (t : List ℕ) (o′ bl r : ℕ) → r ≤ al → r ≤ bl → ((j : ℕ) → j < r → charAt w s (o + j) ≡ charAt w t (o′ + j))
     → (r < al → r < bl → charAt w s (o + r) ≡ charAt w t (o′ + r) → ⊥) → r ≡ common (chars w s o al) (chars w t o′ bl)
 common-chars w s o al t o′ bl r h l e d =
     common-is (chars w s o al) (chars w t o′ bl) r (rw (length-chars w s o al) h) (rw (length-chars w t o′ bl) l)

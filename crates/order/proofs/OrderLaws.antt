@@ -5,7 +5,7 @@ use mathlib.Core.List.{List, [], _∷_}
 use mathlib.Core.Path.{_≡_, refl, sym, ap, ap₂, _∙_}
 use Prim.Native.Nat.{ℕ, zero, suc, _+_, _*_, _/_, _^_, _≤_, _<_, zero-le, suc-le-suc}
 use native.Mathlib.Decide.{ℕ-discrete}
-use native.Mathlib.Nat.{le-of-suc-le-suc}
+use native.Mathlib.Nat.{le-of-suc-le-suc, not-suc-le-zero}
 use native.Mathlib.Omega.{arith}
 use lib.Arith.{le-zero}
 use lib.Dec.{ltb, leb·suc-suc}
@@ -16,12 +16,14 @@ use Rattle.codes.specs.Refusals.{first, viewTests}
 use Rattle.codes.specs.declared.refusals.Outcome.the-variants.{Done}
 use Rattle.codes.specs.declared.refusals.Refusal.the-variants.{TooLong, BadView}
 use Rattle.codes.proofs.CharLaws.{length-chars, getD-chars}
+use Rattle.codes.proofs.Viewed.{view-passed}
 use Rattle.codes.proofs.WidthLaws.{below-or}
 use Rattle.order.specs.Order.{pairOrder, isEqual, compare, common, pairTests}
 use Rattle.order.specs.declared.answers.Order.{Order}
 use Rattle.order.specs.declared.answers.Order.the-variants.{Less, Equal, Greater}
 use Rattle.fields.proofs.LoadLaws.{Bits, view-bits}
 use Rattle.fields.proofs.ViewLaws.{view-accepted, room-sum, room-char}
+use Rattle.views.proofs.SliceLaws.{room-done}
 
 -- r characters are equal, and there is none behind them or it differs
 pub common-is : (xs ys : List ℕ) (r : ℕ) → r ≤ length xs → r ≤ length ys → ((j : ℕ) → j < r → getD xs j 0 ≡ getD ys j 0)
@@ -33,6 +35,22 @@ common-is (x ∷ xs) (y ∷ ys) zero h l e d = rw (ne-eqb x y (d (suc-le-suc zer
 common-is (x ∷ xs) (y ∷ ys) (suc r) h l e d =
     rw (eq-eqb x y (e 0 (suc-le-suc zero-le)))
     (ap suc (common-is xs ys r (le-of-suc-le-suc h) (le-of-suc-le-suc l) (λ j m. e (suc j) (suc-le-suc m)) (λ p q. d (suc-le-suc p) (suc-le-suc q))))
+
+-- so many leading characters are equal
+pub common-same : (xs ys : List ℕ) (j : ℕ) → j < common xs ys → getD xs j 0 ≡ getD ys j 0
+unfolding common
+common-same [] ys j h = absurd (not-suc-le-zero h)
+common-same (x ∷ xs) [] j h = absurd (not-suc-le-zero h)
+common-same (x ∷ xs) (y ∷ ys) zero h =
+    elim (ℕ-discrete x y) [
+      | yes e ↦ e
+      | no n ↦ absurd (not-suc-le-zero (rw (ne-eqb x y n) at h))
+    ]
+common-same (x ∷ xs) (y ∷ ys) (suc j) h =
+    elim (ℕ-discrete x y) [
+      | yes e ↦ common-same xs ys j (le-of-suc-le-suc (rw (eq-eqb x y e) at h))
+      | no n ↦ absurd (not-suc-le-zero (rw (ne-eqb x y n) at h))
+    ]
 
 -- the order by the characters behind the first k, where both lists have one; else by the lengths
 abbrev pub orderFrom : ℕ → List ℕ → List ℕ → Order
@@ -88,6 +106,20 @@ pair-views w m ao al n bo bl e = apart (ltb (2 ^ 28) m) (ltb (2 ^ 28) n) (ltb (m
     apart false false true d e = let z : _≡_ {A = ℕ} 0 1 = cc in absurd (omega arith)
     apart false false false true e = let z : _≡_ {A = ℕ} 0 1 = cc in absurd (omega arith)
     apart false false false false e = (refl, refl)
+
+-- two accepted views are accepted together
+pub pair-done : (w m ao al n bo bl : ℕ) → first (viewTests w m ao al) ≡ Done → first (viewTests w n bo bl) ≡ Done → first (pairTests w m ao al n bo bl) ≡ Done
+pair-done w m ao al n bo bl e f =
+    let p = view-passed w m ao al e in
+    let q = view-passed w n bo bl f in
+    simp (p .0, p .1, q .0, q .1)
+
+-- a part of an accepted view is accepted as it is
+pub pair-cut : (w m ao al n bo bl at k : ℕ) → first (pairTests w m ao al n bo bl) ≡ Done → at + k ≤ al → first (pairTests w m (ao + at) k n bo bl) ≡ Done
+pair-cut w m ao al n bo bl at k e h =
+    let v = pair-views w m ao al n bo bl e in
+    let r = view-accepted w m ao al (v .0) in
+    pair-done w m (ao + at) k n bo bl (room-done w m (ao + at) k (record { small = r .small; fits = omega (arith, r .fits) })) (v .1)
 
 pub pair-bits : {w : ℕ} → IsWidth w → (m ao al n bo bl : ℕ) → first (pairTests w m ao al n bo bl) ≡ Done → Bits w m ao al × Bits w n bo bl
 pair-bits {w} W m ao al n bo bl e =

@@ -11,19 +11,13 @@ use Rattle.codes.specs.Codes.{IsWidth, chars, pick}
 use Rattle.codes.specs.Refusals.{answer, first, viewTests}
 use Rattle.codes.specs.declared.refusals.Outcome.{Outcome}
 use Rattle.codes.specs.declared.refusals.Outcome.the-variants.{Done}
-use Rattle.order.specs.Order.{pairOutcome, pairOrder, pairTests, compare, common, placeOf, orderNumber, compared, ordered, isEqual, equalled, placed, found, isSecond, chosen}
+use Rattle.order.specs.Order.{pairOutcome, pairOrder, compare, common, placeOf, orderNumber, compared, ordered, isEqual, equalled, placed, found, isSecond, chosen}
 use Rattle.fields.specs.Spans.{Span}
 use Rattle.codes.proofs.CharLaws.{same-length}
-use Rattle.codes.proofs.Viewed.{Same, view-passed}
+use Rattle.codes.proofs.Viewed.{Same}
 use Rattle.views.specs.Views.{Lent, empty, normal}
 use Rattle.views.proofs.SliceLaws.{Holds, held, normal-holds}
-
--- two accepted views are accepted together
-pair-done : (w m ao al n bo bl : ℕ) → first (viewTests w m ao al) ≡ Done → first (viewTests w n bo bl) ≡ Done → first (pairTests w m ao al n bo bl) ≡ Done
-pair-done w m ao al n bo bl e f =
-    let p = view-passed w m ao al e in
-    let q = view-passed w n bo bl f in
-    simp (p .0, p .1, q .0, q .1)
+use Rattle.order.proofs.OrderLaws.{pair-done}
 
 -- the part that comes first is an accepted view, with the characters of the view that does
 module _ {w : ℕ} (W : IsWidth w) (s : Span) (ao al : ℕ) (t : Span) (bo bl : ℕ) where

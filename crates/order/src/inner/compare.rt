@@ -16,7 +16,15 @@ ghost use Rattle.order.specs.Answers.{comparedSays, orderedSays, equalit
 ghost use Rattle.order.specs.Order.{common, pairOutcome, pairOrder, compared, ordered, equalled};
 
 // The count of equal leading characters: 56 bits a turn.
-fn lcp_words(w: usize, a: &[u8], ao: usize, al: usize, b: &[u8], bo: usize, bl: usize) -> usize
+pub(crate) fn lcp_words(
+    w: usize,
+    a: &[u8],
+    ao: usize,
+    al: usize,
+    b: &[u8],
+    bo: usize,
+    bl: usize,
+) -> usize
     requires { ⌜ IsWidth w ⌝ }
     requires { ⌜ pairOutcome w (now a) ao al (now b) bo bl ≡ Done ⌝ }
     ensures { λ r. ⌜ r ≡ common (chars w (now (a .entry)) ao al) (chars w (now (b .entry)) bo bl) ⌝ }
