@@ -74,27 +74,29 @@ fn order(packed: &[u8], moved: &[u8], offset: usize) -> Result<(), Refusal> {
     let b = bases::View::new(moved, Chars(offset), LEN)?;
     let x = PackedSeq::from_raw_parts(packed, 0, LETTERS);
     let y = PackedSeq::from_raw_parts(moved, offset, LETTERS);
-    let name = |call: &str| format!("{call}, equal, at offsets 0 and {offset}");
+    let name = |call: &str| format!("compare for {call}, offsets 0 and {offset}");
+    let ours = |_: &mut ()| a.compare(b);
+    let equal = Ok((Ordering::Equal, LEN));
     job(
         &name("cmp_lcp"),
         (),
-        |()| a.cmp_lcp(b),
+        ours,
         |()| x.cmp_lcp(&y),
-        |(), a, b| a == Ok((Ordering::Equal, LEN)) && b == (Ordering::Equal, LETTERS),
+        |(), a, b| a == equal && b == (Ordering::Equal, LETTERS),
     );
     job(
         &name("cmp"),
         (),
-        |()| a.cmp(b),
+        ours,
         |()| x.cmp(&y),
-        |(), a, b| a == Ok(Ordering::Equal) && b == Ordering::Equal,
+        |(), a, b| a == equal && b == Ordering::Equal,
     );
     job(
-        &name("eq"),
+        &name("=="),
         (),
-        |()| a.eq(b),
+        ours,
         |()| x == y,
-        |(), a, b| a == Ok(true) && b,
+        |(), a, b| a == equal && b,
     );
     Ok(())
 }

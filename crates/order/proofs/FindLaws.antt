@@ -14,7 +14,7 @@ use Rattle.codes.specs.Refusals.{answer}
 use Rattle.codes.specs.declared.refusals.Outcome.the-variants.{Done}
 use Rattle.codes.proofs.CharLaws.{getD-chars}
 use Rattle.order.specs.Order.{common, stands, oneOn, placeOf, placed}
-use Rattle.order.proofs.LcpLaws.{common-chars}
+use Rattle.order.proofs.CommonLaws.{common-chars}
 use Rattle.order.proofs.OrderLaws.{common-same}
 
 -- m characters g stand among n characters f at k

@@ -11,7 +11,7 @@ use Rattle.codes.specs.Codes.{IsWidth, chars, pick}
 use Rattle.codes.specs.Refusals.{answer, first, viewTests}
 use Rattle.codes.specs.declared.refusals.Outcome.{Outcome}
 use Rattle.codes.specs.declared.refusals.Outcome.the-variants.{Done}
-use Rattle.order.specs.Order.{pairOutcome, pairOrder, compare, common, placeOf, orderNumber, compared, ordered, isEqual, equalled, placed, found, isSecond, chosen}
+use Rattle.order.specs.Order.{pairOutcome, pairOrder, compare, common, placeOf, orderNumber, compared, placed, found, isSecond, chosen}
 use Rattle.fields.specs.Spans.{Span}
 use Rattle.codes.proofs.CharLaws.{same-length}
 use Rattle.codes.proofs.Viewed.{Same}
@@ -49,14 +49,6 @@ module _ {w : ℕ} {us : List ℕ} {ao al : ℕ} {xs : List ℕ} {xo xl : ℕ} (
   pub compared-viewed : compared w us ao al bs bo bl ≡ compared w xs xo xl ys yo yl
   unfolding compared
   compared-viewed = pair-viewed (λ q cs ds. answer q (orderNumber (compare cs ds), common cs ds) (pos 0, 0))
-
-  pub ordered-viewed : ordered w us ao al bs bo bl ≡ ordered w xs xo xl ys yo yl
-  unfolding ordered
-  ordered-viewed = pair-viewed (λ q cs ds. answer q (orderNumber (compare cs ds)) (pos 0))
-
-  pub equalled-viewed : equalled w us ao al bs bo bl ≡ equalled w xs xo xl ys yo yl
-  unfolding equalled
-  equalled-viewed = pair-viewed (λ q cs ds. answer q (isEqual (compare cs ds)) false)
 
   pub found-viewed : found w us ao al bs bo bl ≡ found w xs xo xl ys yo yl
   unfolding found

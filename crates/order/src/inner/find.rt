@@ -1,6 +1,6 @@
 // The least place of a pattern in a text: places in turn, and at each one comparison.
 use crate::answers::Found;
-use crate::inner::compare::lcp_words;
+use crate::inner::compare::compare_views;
 use crate::inner::pairs::pair_outcome;
 use codes::refusals::Outcome;
 use codes::units::Chars;
@@ -25,7 +25,8 @@ fn find_at(w: usize, t: &[u8], to: usize, tl: usize, p: &[u8], po: usize, pl: us
     let mut answer = Found::Absent;
     let mut at: usize = 0;
     'places: while at <= last {
-        if lcp_words(w, t, to + at, pl, p, po, pl) < pl {
+        let c = compare_views(w, t, to + at, pl, p, po, pl);
+        if c.common < pl {
             at += 1;
             continue 'places;
         }

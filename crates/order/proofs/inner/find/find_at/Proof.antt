@@ -41,15 +41,15 @@ module _ (c : tie.In-places Inv-places μ-places) where
       let a = start .args in
       pair-cut (a .w) (length (a .t .now)) (a .to) (a .tl) (length (a .p .now)) (a .po) (a .pl) (c .before .places .at) (a .pl) (start .pre .1) (omega arith)
 
-add-lcp-words : tie.Need-add-lcp-words Inv-places μ-places
-add-lcp-words c =
+add-compare-views : tie.Need-add-compare-views Inv-places μ-places
+add-compare-views c =
     let s = start c in
     let a = s .args in
     let v = pair-views (a .w) (length (a .t .now)) (a .to) (a .tl) (length (a .p .now)) (a .po) (a .pl) (s .pre .1) in
     record { fits = omega (arith, room-sum (s .pre .0) (view-accepted (a .w) (length (a .t .now)) (a .to) (a .tl) (v .0))) }
 
-lcp-words-requires : tie.Need-lcp-words-requires Inv-places μ-places
-lcp-words-requires c κs = (start c .pre .0, cut c)
+compare-views-requires : tie.Need-compare-views-requires Inv-places μ-places
+compare-views-requires c κs = (start c .pre .0, cut c)
 
 add-at : tie.Need-add-at Inv-places μ-places
 add-at c = search needs
@@ -59,9 +59,9 @@ places-less c = search needs
 
 places-again : tie.Need-places-again Inv-places μ-places
 places-again c =
-    let l = c .before .before .before .places in
-    let a = start (c .before .before) .args in
-    let short = subst (λ (n : ℕ). n < a .pl) (c .before .lcp-words .ensures) (c .if2 .taken) in
+    let l = c .before .before .before .before .places in
+    let a = start (c .before .before .before) .args in
+    let short = subst (λ (n : ℕ). n < a .pl) (c .before .before .compare-views .ensures .1) (c .if2 .taken) in
     (search needs, below-more _ _ (l .inv .1) (stands-short (a .w) (a .t .now) (a .to) (a .tl) (a .p .now) (a .po) (a .pl) (l .at) short), l .inv .2)
 
 new-requires : tie.Need-new-requires Inv-places μ-places
@@ -76,10 +76,10 @@ returns-2 c =
 
 returns-3 : tie.Need-returns-3 Inv-places μ-places
 returns-3 c =
-    let i = c .before .before .before in
+    let i = c .before .before .before .before in
     let l = i .before .places in
     let a = start i .args in
-    let whole = subst (λ (n : ℕ). a .pl ≤ n) (c .before .before .lcp-words .ensures) (c .before .if2 .left) in
+    let whole = subst (λ (n : ℕ). a .pl ≤ n) (c .before .before .before .compare-views .ensures .1) (c .before .if2 .left) in
     ap (λ (k : ℕ). answer Done (true, k) (false, 0)) (c .new .ensures)
     ∙ found-at (a .w) (a .t .now) (a .to) (a .tl) (a .p .now) (a .po) (a .pl) (l .at)
     (stands-whole (a .w) (a .t .now) (a .to) (a .tl) (a .p .now) (a .po) (a .pl) (l .at) (omega arith) whole) (l .inv .1)
@@ -92,8 +92,8 @@ find-at-spec =
     μ-places
     returns
     places-holds
-    add-lcp-words
-    lcp-words-requires
+    add-compare-views
+    compare-views-requires
     add-at
     places-less
     places-again
