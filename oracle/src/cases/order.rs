@@ -46,9 +46,13 @@ where
         assert_eq!(count, common(&xs, &ys));
         assert_eq!(order, xs.cmp(&ys));
         assert_eq!(order, a.iter_bp().cmp(b.iter_bp()));
-        ((order, count), a.cmp(&b), a == b)
+        let (cmp, equal) = (a.cmp(&b), a == b);
+        assert_eq!(cmp, xs.cmp(&ys));
+        assert_eq!(equal, xs == ys);
+        ((order, count), cmp, equal)
     }
 
+    /// One question, and the original's three answers.
     pub fn compare(&self) {
         let answers = match number(&self.tests()) {
             0 => {

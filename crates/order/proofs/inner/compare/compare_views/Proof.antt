@@ -1,4 +1,4 @@
--- Every character passed is equal; the first 56 bits that differ show where, and the words may reach beyond the views.
+-- Every character passed is equal; the first 56 bits that differ show where, and hold the two characters there. Words may reach beyond the views.
 -- Assumes nothing.
 use Prim.Native.Nat.{ℕ, _-_, _*_, _/_, _<_}
 use native.Mathlib.Nat.{div-le-self, mul-div-le, le-of-lt, le-min, min-le-left, min-le-right, min-eq-left, min-eq-right}
@@ -9,10 +9,11 @@ use lib.ListN.{length}
 use borrow.Author.Needs.{needs}
 use mathlib.Core.List.{[], _∷_}
 use mathlib.Core.Logic.{⊎-elim}
-use mathlib.Core.Path.{sym, ap₂, _∙_}
+use mathlib.Core.Path.{_≡_, sym, ap₂, _∙_}
 use Rattle.codes.proofs.TabLaws.{Below-of}
 use Rattle.codes.proofs.WidthLaws.{width-pos}
-use Rattle.order.specs.Order.{compare}
+use Rattle.codes.specs.Codes.{chars}
+use Rattle.order.specs.Order.{compare, common}
 use Rattle.order.proofs.CommonLaws.{Two, Passed, two-few, two-starts, turn-left, turn-right, passed-none, passed-all, passed-turn, passed-found, passed-chars, differ-low}
 use Rattle.fields.proofs.LoadLaws.{turn-pos}
 use Rattle.order.proofs.OrderLaws.{pair-bits, order-behind, order-ends}
@@ -119,12 +120,10 @@ returns c =
     let y = found t .peek2 in
     let e = sym (min-eq-left (le-of-lt (c .before .before .before .if2 .left))) ∙ passed-found (two (views t)) (l .inv) (x .result) (y .result) (x .ensures) (y .ensures) (t .if1 .taken) in
     let there = passed-chars (two (views t)) (l .inv) (x .result) (y .result) (x .ensures) (y .ensures) (t .if1 .taken) in
-    let few = two (views t) .least in (
-      c .order-of .ensures
-          ∙ ap₂ (λ (m n : ℕ). compare (m ∷ []) (n ∷ [])) (c .before .before .low-bits .ensures ∙ there .0) (c .before .low-bits2 .ensures ∙ there .1)
-          ∙ sym (order-behind (a .w) (a .a .now) (a .ao) (a .al) (a .b .now) (a .bo) (a .bl) _ e (omega (arith, few, min-le-left (a .al) (a .bl))) (omega (arith, few, min-le-right (a .al) (a .bl)))),
-      e,
-    )
+    let decided = ap₂ (λ (m n : ℕ). compare (m ∷ []) (n ∷ [])) (c .before .before .low-bits .ensures ∙ there .0) (c .before .low-bits2 .ensures ∙ there .1) in
+    let few = two (views t) .least in
+    let behind = order-behind (a .w) (a .a .now) (a .ao) (a .al) (a .b .now) (a .bo) (a .bl) _ e (omega (arith, few, min-le-left (a .al) (a .bl))) (omega (arith, few, min-le-right (a .al) (a .bl))) in
+    (c .order-of .ensures ∙ decided ∙ sym behind, e)
 
 add-p : tie.Need-add-p Inv-loop μ-loop
 add-p c =
@@ -153,19 +152,23 @@ loop-again c =
 order-of-requires-2 : tie.Need-order-of-requires-2 Inv-loop μ-loop
 order-of-requires-2 c κs = search needs
 
+-- behind the loop: all that both views have is common, whether it was passed or what differs lies beyond
+ended : (c : tie.Left-loop Inv-loop μ-loop)
+    → let v = c .before .before in
+    let a = v .before .before .before .args in
+    v .smaller .result ≡ common (chars (a .w) (a .a .now) (a .ao) (a .al)) (chars (a .w) (a .b .now) (a .bo) (a .bl))
+ended c =
+    let v = two (c .before .before) in
+    let i = c .before .loop .inv in
+    ⊎-elim (λ h. passed-all v i (h .left))
+    (λ h. sym (min-eq-right (h .4 .taken)) ∙ passed-found v i (h .1 .result) (h .2 .result) (h .1 .ensures) (h .2 .ensures) (h .3 .taken)) (c .loop-test .came)
+
 returns-2 : tie.Need-returns-2 Inv-loop μ-loop
 returns-2 c =
-    let m = c .before .before in
-    let v = two (m .before) in
-    let a = m .before .before .before .before .args in
-    let e =
-    ⊎-elim (λ h. passed-all v (m .loop .inv) (h .left))
-    (λ h. sym (min-eq-right (h .4 .taken)) ∙ passed-found v (m .loop .inv) (h .1 .result) (h .2 .result) (h .1 .ensures) (h .2 .ensures) (h .3 .taken))
-    (c .before .loop-test .came) in (
-      c .order-of2 .ensures
-          ∙ sym (order-ends (a .w) (a .a .now) (a .ao) (a .al) (a .b .now) (a .bo) (a .bl) _ e (λ h l. omega (arith, v .least, le-min h l))),
-      e,
-    )
+    let v = c .before .before .before in
+    let a = v .before .before .before .args in
+    let ends = order-ends (a .w) (a .a .now) (a .ao) (a .al) (a .b .now) (a .bo) (a .bl) _ (ended (c .before)) (λ h l. omega (arith, two v .least, le-min h l)) in
+    (c .order-of2 .ensures ∙ sym ends, ended (c .before))
 
 pub compare-views-spec : {M : Type 1} → statement M
 compare-views-spec =
