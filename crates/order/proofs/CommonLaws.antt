@@ -129,12 +129,12 @@ module _ {w : ℕ} (W : IsWidth w) (s t : List ℕ) (bs : Below 8 s) (bt : Below
       ap (charAt w s) (sym (add-assoc o i (j - i) ∙ ap (λ (n : ℕ). o + n) d)) ∙ e ∙ ap (charAt w t) (add-assoc o′ i (j - i) ∙ ap (λ (n : ℕ). o′ + n) d))
 
   -- 56 equal bits are a turn's equal characters
-  lcp-turn : bitXor x y % 2 ^ 56 ≡ 0 → SameBelow w s o t o′ (i + 56 / w)
-  lcp-turn z = same-more 56 (56 / w) (omega arith) z (mul-div-le 56 w)
+  common-turn : bitXor x y % 2 ^ 56 ≡ 0 → SameBelow w s o t o′ (i + 56 / w)
+  common-turn z = same-more 56 (56 / w) (omega arith) z (mul-div-le 56 w)
 
   -- otherwise the lowest differing bit stands in the first character that differs
-  lcp-found : (al bl n : ℕ) → n ≡ min al bl → (bitXor x y % 2 ^ 56 ≡ 0 → ⊥) → min (i + trailingZeros 64 (bitXor x y) / w) n ≡ common (chars w s o al) (chars w t o′ bl)
-  lcp-found al bl n en z =
+  common-found : (al bl n : ℕ) → n ≡ min al bl → (bitXor x y % 2 ^ 56 ≡ 0 → ⊥) → min (i + trailingZeros 64 (bitXor x y) / w) n ≡ common (chars w s o al) (chars w t o′ bl)
+  common-found al bl n en z =
       below-or (i + m / w) n
       (λ l. min-eq-left (le-of-lt l) ∙ common-chars w s o al t o′ bl (i + m / w) (omega (arith, min-le-left al bl)) (omega (arith, min-le-right al bl)) same (λ _ _ e. other e))
       (λ l. min-eq-right l ∙ same-all w s o al t o′ bl (i + m / w) n en l same)
@@ -214,12 +214,12 @@ module _ {w : ℕ} {s : List ℕ} {o al : ℕ} {t : List ℕ} {o′ bl n : ℕ} 
       passed-turn z = record {
         left = place-on (v .width) o i p (h .left);
         right = place-on (v .width) o′ i q (h .right);
-        same = lcp-turn (v .width) s t (v .bytes .0) (v .bytes .1) o o′ i p q x y left-peeked right-peeked (h .same) z;
+        same = common-turn (v .width) s t (v .bytes .0) (v .bytes .1) o o′ i p q x y left-peeked right-peeked (h .same) z;
       }
 
       -- 56 bits that differ show where
       pub passed-found : (bitXor x y % 2 ^ 56 ≡ 0 → ⊥) → min (i + trailingZeros 64 (bitXor x y) / w) n ≡ common (chars w s o al) (chars w t o′ bl)
-      passed-found z = lcp-found (v .width) s t (v .bytes .0) (v .bytes .1) o o′ i p q x y left-peeked right-peeked (h .same) al bl n (v .least) z
+      passed-found z = common-found (v .width) s t (v .bytes .0) (v .bytes .1) o o′ i p q x y left-peeked right-peeked (h .same) al bl n (v .least) z
 
       -- and the character of each view there
       pub passed-chars : (bitXor x y % 2 ^ 56 ≡ 0 → ⊥)
