@@ -34,9 +34,13 @@ order-back Less = refl
 order-back Equal = refl
 order-back Greater = refl
 
+-- the answer of an outcome, an order and a common length
+abbrev pub comparedBy : Outcome → Order → ℕ → Compared
+comparedBy Done o n = Compared.Is o (count n)
+comparedBy (Refused r) o n = Compared.Refused r
+
 abbrev comparedOf : Outcome → ℤ × ℕ → Compared
-comparedOf Done v = Compared.Is (orderAt (v .0)) (count (v .1))
-comparedOf (Refused r) v = Compared.Refused r
+comparedOf q v = comparedBy q (orderAt (v .0)) (v .1)
 
 compared-back : (r : Compared) → r ≡ comparedOf (outcomeAt (comparedSays r .no)) (comparedSays r .values)
 compared-back (Compared.Is o n) = ap (λ (x : Order). Compared.Is x n) (order-back o) ∙ sym (ap (λ (p : Outcome). comparedOf p (orderNumber o, n .0)) (outcomeAt-number Done))
@@ -44,11 +48,6 @@ compared-back (Compared.Refused r) = sym (ap (λ (o : Outcome). comparedOf o (po
 
 pub compared-told : Told comparedSays
 compared-told = record { make = comparedOf; back = compared-back }
-
--- the answer of an outcome, an order and a common length
-abbrev pub comparedBy : Outcome → Order → ℕ → Compared
-comparedBy Done o n = Compared.Is o (count n)
-comparedBy (Refused r) o n = Compared.Refused r
 
 says-compared : (q : Outcome) (o : Order) (n : ℕ) → comparedSays (comparedBy q o n) ≡ answer q (orderNumber o, n) (pos 0, 0)
 says-compared Done o n = refl

@@ -15,7 +15,7 @@ use Rattle.codes.specs.declared.refusals.Outcome.the-variants.{Done}
 use Rattle.codes.proofs.CharLaws.{getD-chars}
 use Rattle.order.specs.Order.{common, stands, oneOn, placeOf, placed}
 use Rattle.order.proofs.CommonLaws.{common-chars}
-use Rattle.order.proofs.OrderLaws.{common-same}
+use Rattle.order.proofs.OrderLaws.{from-zero, common-same}
 
 -- m characters g stand among n characters f at k
 abbrev pub StandsAt : (ℕ → ℕ) → ℕ → (ℕ → ℕ) → ℕ → ℕ → Type 0
@@ -31,11 +31,6 @@ stands-all (suc m) (suc n) f g l h =
 both-true : (a b : Bool) → a && b ≡ true → (a ≡ true) × (b ≡ true)
 both-true true b e = (refl, e)
 both-true false b e = let z : _≡_ {A = ℕ} 0 1 = cc in absurd (omega arith)
-
--- what holds of 0, and of each number above
-from-zero : (m : ℕ) (P : ℕ → Type 0) → P 0 → ((i : ℕ) → i < m → P (suc i)) → (i : ℕ) → i < suc m → P i
-from-zero m P p h zero l = p
-from-zero m P p h (suc i) l = h i (le-of-suc-le-suc l)
 
 stands-only : (m n : ℕ) (f g : ℕ → ℕ) → stands (tab m g) (tab n f) ≡ true → (m ≤ n) × ((i : ℕ) → i < m → f i ≡ g i)
 unfolding stands tab

@@ -36,19 +36,19 @@ common-is (x ∷ xs) (y ∷ ys) (suc r) h l e d =
     rw (eq-eqb x y (e 0 (suc-le-suc zero-le)))
     (ap suc (common-is xs ys r (le-of-suc-le-suc h) (le-of-suc-le-suc l) (λ j m. e (suc j) (suc-le-suc m)) (λ p q. d (suc-le-suc p) (suc-le-suc q))))
 
+-- what holds of 0, and of each number above
+pub from-zero : (m : ℕ) (P : ℕ → Type 0) → P 0 → ((i : ℕ) → i < m → P (suc i)) → (i : ℕ) → i < suc m → P i
+from-zero m P p h zero l = p
+from-zero m P p h (suc i) l = h i (le-of-suc-le-suc l)
+
 -- so many leading characters are equal
 pub common-same : (xs ys : List ℕ) (j : ℕ) → j < common xs ys → getD xs j 0 ≡ getD ys j 0
 unfolding common
 common-same [] ys j h = absurd (not-suc-le-zero h)
 common-same (x ∷ xs) [] j h = absurd (not-suc-le-zero h)
-common-same (x ∷ xs) (y ∷ ys) zero h =
+common-same (x ∷ xs) (y ∷ ys) j h =
     elim (ℕ-discrete x y) [
-      | yes e ↦ e
-      | no n ↦ absurd (not-suc-le-zero (rw (ne-eqb x y n) at h))
-    ]
-common-same (x ∷ xs) (y ∷ ys) (suc j) h =
-    elim (ℕ-discrete x y) [
-      | yes e ↦ common-same xs ys j (le-of-suc-le-suc (rw (eq-eqb x y e) at h))
+      | yes e ↦ from-zero (common xs ys) (λ i. getD (x ∷ xs) i 0 ≡ getD (y ∷ ys) i 0) e (common-same xs ys) j (rw (eq-eqb x y e) at h)
       | no n ↦ absurd (not-suc-le-zero (rw (ne-eqb x y n) at h))
     ]
 

@@ -45,7 +45,8 @@ module _ (c : tie.After-count4) where
 
   -- by their counts
   counted : {A : Type 0} (f : ℕ → ℕ → ℕ → ℕ → A)
-      → let a = s .args in f (c .before .before .before .count .result) (c .before .before .count2 .result) (c .before .count3 .result) (c .count4 .result) ≡ f (a .ao .0) (a .al .0) (a .bo .0) (a .bl .0)
+      → let a = s .args in
+      f (c .before .before .before .count .result) (c .before .before .count2 .result) (c .before .count3 .result) (c .count4 .result) ≡ f (a .ao .0) (a .al .0) (a .bo .0) (a .bl .0)
   counted f = λ i. f (c .before .before .before .count .ensures i) (c .before .before .count2 .ensures i) (c .before .count3 .ensures i) (c .count4 .ensures i)
 
 compare-views-requires : tie.Need-compare-views-requires

@@ -44,7 +44,8 @@ module _ (c : tie.After-count4) where
 
   -- by their counts
   counted : {A : Type 0} (f : ℕ → ℕ → ℕ → ℕ → A)
-      → let a = s .args in f (c .before .before .before .count .result) (c .before .before .count2 .result) (c .before .count3 .result) (c .count4 .result) ≡ f (a .to .0) (a .tl .0) (a .po .0) (a .pl .0)
+      → let a = s .args in
+      f (c .before .before .before .count .result) (c .before .before .count2 .result) (c .before .count3 .result) (c .count4 .result) ≡ f (a .to .0) (a .tl .0) (a .po .0) (a .pl .0)
   counted f = λ i. f (c .before .before .before .count .ensures i) (c .before .before .count2 .ensures i) (c .before .count3 .ensures i) (c .count4 .ensures i)
 
 find-at-requires : tie.Need-find-at-requires
