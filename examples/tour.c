@@ -21,7 +21,7 @@ int main(void)
     uint8_t letters[64], form[TSIV_FORM_ROOM(64)];
     uint16_t entries[TSIV_COUNTS_ROOM(64)];
     uint64_t total;
-    size_t len, marks, start, end, size, again;
+    size_t len, marks, start, end, size, same, again;
     int32_t order;
 
     /* Two tracks of one read: its bases, and which of its letters are ambiguous. */
@@ -35,8 +35,8 @@ int main(void)
     must(tsiv_bases_unpack(reverse, sizeof reverse, 0, len, letters, sizeof letters));
     printf("reverse complement %.*s\n", (int)len, (const char *)letters);
 
-    must(tsiv_bases_cmp(bases, sizeof bases, 0, len, reverse, sizeof reverse, 0, len, &order));
-    printf("order %d\n", order);
+    must(tsiv_bases_compare(bases, sizeof bases, 0, len, reverse, sizeof reverse, 0, len, &order, &same));
+    printf("order %d, %zu in common\n", order, same);
 
     /* A stored form holds both tracks. */
     must(tsiv_form_write(bases, sizeof bases, 0, len, flags, sizeof flags, 0, marks, form, sizeof form, &size));
@@ -55,7 +55,8 @@ int main(void)
 
     /* Counts beside a track of flags tell how many a stretch has; every call on the store carries them. */
     must(tsiv_flags_clear_counted(flags, sizeof flags, &marks, entries, 1));
-    must(tsiv_flags_push_ascii_counted(flags, sizeof flags, &marks, entries, 1, (const uint8_t *)"ACNNGTN", 7, &start, &end));
+    must(tsiv_flags_push_ascii_counted(flags, sizeof flags, &marks, entries, 1, (const uint8_t *)"ACNNGTN", 7, &start,
+                                       &end));
     must(tsiv_flags_count(flags, sizeof flags, marks, entries, 1, 1, 4, &total));
     printf("ambiguous %u in all, %llu from 1 to 4\n", entries[0], (unsigned long long)total);
 

@@ -216,21 +216,11 @@ TSIV_USE uint32_t tsiv_flags_to_revcomp(const uint8_t *bytes, size_t bytes_size,
 /* ---- Two views, a and b: every call gives TOO_LONG, then BAD_VIEW, of either. Both may lie in the same bytes. */
 
 /* *order: -1, 0 or 1. The first differing character decides, by code, so A < C < T < G; else the shorter is first. *common: how many
- * leading characters are equal. */
-TSIV_USE uint32_t tsiv_bases_cmp_lcp(const uint8_t *a, size_t a_size, size_t a_offset, size_t a_len, const uint8_t *b,
+ * leading characters are equal. Where the call is done, *order is 0 exactly if a and b have the same characters. */
+TSIV_USE uint32_t tsiv_bases_compare(const uint8_t *a, size_t a_size, size_t a_offset, size_t a_len, const uint8_t *b,
                                      size_t b_size, size_t b_offset, size_t b_len, int32_t *order, size_t *common);
-TSIV_USE uint32_t tsiv_flags_cmp_lcp(const uint8_t *a, size_t a_size, size_t a_offset, size_t a_len, const uint8_t *b,
+TSIV_USE uint32_t tsiv_flags_compare(const uint8_t *a, size_t a_size, size_t a_offset, size_t a_len, const uint8_t *b,
                                      size_t b_size, size_t b_offset, size_t b_len, int32_t *order, size_t *common);
-TSIV_USE uint32_t tsiv_bases_cmp(const uint8_t *a, size_t a_size, size_t a_offset, size_t a_len, const uint8_t *b,
-                                 size_t b_size, size_t b_offset, size_t b_len, int32_t *order);
-TSIV_USE uint32_t tsiv_flags_cmp(const uint8_t *a, size_t a_size, size_t a_offset, size_t a_len, const uint8_t *b,
-                                 size_t b_size, size_t b_offset, size_t b_len, int32_t *order);
-
-/* *equal: whether they have the same characters. */
-TSIV_USE uint32_t tsiv_bases_eq(const uint8_t *a, size_t a_size, size_t a_offset, size_t a_len, const uint8_t *b,
-                                size_t b_size, size_t b_offset, size_t b_len, bool *equal);
-TSIV_USE uint32_t tsiv_flags_eq(const uint8_t *a, size_t a_size, size_t a_offset, size_t a_len, const uint8_t *b,
-                                size_t b_size, size_t b_offset, size_t b_len, bool *equal);
 
 /* *there: whether the pattern stands in the text; *place: the least place where it does, 0 where it does not. */
 TSIV_USE uint32_t tsiv_bases_find(const uint8_t *text, size_t text_size, size_t text_offset, size_t text_len,

@@ -82,7 +82,16 @@ static void worked(void)
     HOLD(tsiv_bases_normalise(bytes, 60, 9, 3, &a, &b, &c, &d) == 0 && a == 2 && b == 49 && c == 1 && d == 3);
     /* AC against ACT: bytes 4 and 36 */
     uint8_t ac[49] = {4}, act[49] = {36};
-    HOLD(tsiv_bases_cmp_lcp(ac, 49, 0, 2, act, 49, 0, 3, &order, &a) == 0 && order == -1 && a == 2);
+    HOLD(tsiv_bases_compare(ac, 49, 0, 2, act, 49, 0, 3, &order, &a) == 0 && order == -1 && a == 2);
+    HOLD(tsiv_bases_compare(act, 49, 0, 3, ac, 49, 0, 2, &order, &a) == 0 && order == 1 && a == 2);
+    HOLD(tsiv_bases_compare(ac, 49, 0, 2, act, 49, 0, 2, &order, &a) == 0 && order == 0 && a == 2);
+    /* the T of ACT against G, byte 3; empty against empty */
+    uint8_t g[49] = {3};
+    HOLD(tsiv_bases_compare(act, 49, 2, 1, g, 49, 0, 1, &order, &a) == 0 && order == -1 && a == 0);
+    HOLD(tsiv_bases_compare(ac, 49, 1, 0, act, 49, 4, 0, &order, &a) == 0 && order == 0 && a == 0);
+    HOLD(tsiv_flags_compare(ac, 49, 0, 8, act, 49, 0, 8, &order, &a) == 0 && order == -1 && a == 5);
+    order = 7, a = 7;
+    HOLD(tsiv_bases_compare(ac, 49, 0, 4, act, 49, 0, 5, &order, &a) == TSIV_BAD_VIEW && order == 0 && a == 0);
     HOLD(tsiv_bases_least(act, 49, 0, 3, ac, 49, 0, 2, &flag, &a, &b, &c, &d) == 0 && flag && d == 2);
     HOLD(tsiv_bases_find(act, 49, 0, 3, ac, 49, 1, 1, &flag, &a) == 0 && flag && a == 1);
     /* length 3, a view at in-byte offset 1 of length 2: 5 to 7 at width 2, 9 to 11 at width 1 */
@@ -126,9 +135,9 @@ static void nulls(void)
     HOLD(tsiv_##W##_revcomp_as_u128(NULL, 0, 0, 0, &low, &high) == TSIV_BAD_VIEW);                                     \
     HOLD(tsiv_##W##_to_revcomp(bytes, 64, 0, 0, NULL, 0) == TSIV_NO_ROOM);                                             \
     HOLD(tsiv_##W##_to_revcomp(NULL, 0, 0, 0, NULL, 0) == TSIV_BAD_VIEW);                                              \
-    HOLD(tsiv_##W##_cmp_lcp(NULL, 0, 0, 0, NULL, 0, 0, 0, &order, &a) == TSIV_BAD_VIEW);                               \
-    HOLD(tsiv_##W##_cmp(bytes, 64, 0, 0, NULL, 0, 0, 0, &order) == TSIV_BAD_VIEW);                                     \
-    HOLD(tsiv_##W##_eq(NULL, 0, 0, 0, bytes, 64, 0, 0, &flag) == TSIV_BAD_VIEW);                                       \
+    HOLD(tsiv_##W##_compare(NULL, 0, 0, 0, NULL, 0, 0, 0, &order, &a) == TSIV_BAD_VIEW);                               \
+    HOLD(tsiv_##W##_compare(bytes, 64, 0, 0, NULL, 0, 0, 0, &order, &a) == TSIV_BAD_VIEW);                             \
+    HOLD(tsiv_##W##_compare(NULL, 0, 0, 0, bytes, 64, 0, 0, &order, &a) == TSIV_BAD_VIEW);                             \
     HOLD(tsiv_##W##_find(NULL, 0, 0, 0, NULL, 0, 0, 0, &flag, &a) == TSIV_BAD_VIEW);                                   \
     HOLD(tsiv_##W##_least(NULL, 0, 0, 0, NULL, 0, 0, 0, &flag, &a, &b, &c, &d) == TSIV_BAD_VIEW);                      \
     HOLD(tsiv_##W##_clear(NULL, 0, &len) == TSIV_NO_ROOM);                                                             \
@@ -241,9 +250,8 @@ static void too_long(void)
     HOLD(tsiv_##W##_revcomp_as_u64(big, more, 0, 1, &word) == TSIV_TOO_LONG);                                          \
     HOLD(tsiv_##W##_revcomp_as_u128(big, more, 0, 1, &low, &high) == TSIV_TOO_LONG);                                   \
     HOLD(tsiv_##W##_to_revcomp(big, more, 0, 1, out, 64) == TSIV_TOO_LONG);                                            \
-    HOLD(tsiv_##W##_cmp_lcp(out, 64, 0, 1, big, more, 0, 1, &order, &a) == TSIV_TOO_LONG);                             \
-    HOLD(tsiv_##W##_cmp(big, more, 0, 1, out, 64, 0, 1, &order) == TSIV_TOO_LONG);                                     \
-    HOLD(tsiv_##W##_eq(out, 64, 0, 1, big, more, 0, 1, &flag) == TSIV_TOO_LONG);                                       \
+    HOLD(tsiv_##W##_compare(out, 64, 0, 1, big, more, 0, 1, &order, &a) == TSIV_TOO_LONG);                             \
+    HOLD(tsiv_##W##_compare(big, more, 0, 1, out, 64, 0, 1, &order, &a) == TSIV_TOO_LONG);                             \
     HOLD(tsiv_##W##_find(big, more, 0, 1, out, 64, 0, 1, &flag, &a) == TSIV_TOO_LONG);                                 \
     HOLD(tsiv_##W##_least(out, 64, 0, 1, big, more, 0, 1, &flag, &a, &b, &c, &d) == TSIV_TOO_LONG);                    \
     HOLD(tsiv_##W##_clear(big, more, &len) == TSIV_TOO_LONG && len == 0);                                              \

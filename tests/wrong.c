@@ -34,14 +34,23 @@ OVER(bases_to_revcomp, const uint8_t *bytes, size_t size, size_t offset, size_t 
 }
 #elif defined WRITES_INPUT
 /* The same byte again: only a page that cannot be written tells. */
-OVER(flags_cmp, const uint8_t *a, size_t a_size, size_t ao, size_t al, const uint8_t *b, size_t b_size, size_t bo,
-     size_t bl, int32_t *order)
+OVER(flags_compare, const uint8_t *a, size_t a_size, size_t ao, size_t al, const uint8_t *b, size_t b_size, size_t bo,
+     size_t bl, int32_t *order, size_t *common)
 {
     if (b_size) {
         seen = b[0];
         *(volatile uint8_t *)b = seen;
     }
-    return REAL(flags_cmp)(a, a_size, ao, al, b, b_size, bo, bl, order);
+    return REAL(flags_compare)(a, a_size, ao, al, b, b_size, bo, bl, order, common);
+}
+#elif defined EQUAL_WHERE_ONE_ENDS
+OVER(bases_compare, const uint8_t *a, size_t a_size, size_t ao, size_t al, const uint8_t *b, size_t b_size, size_t bo,
+     size_t bl, int32_t *order, size_t *common)
+{
+    uint32_t no = REAL(bases_compare)(a, a_size, ao, al, b, b_size, bo, bl, order, common);
+    if (no == 0 && (*common == al || *common == bl))
+        *order = 0;
+    return no;
 }
 #elif defined WIDE_NUMBER
 /* Two bytes where one is lent. */

@@ -31,11 +31,26 @@ pub fn jobs(text: &[u8]) -> Result<(), Refusal> {
         |o| bases::View::unasked(packed, Chars(o), Chars(29)).as_u64(),
         |o| all.slice(o..o + 29).as_u64(),
     );
-    finding("find 16 letters in random ones", text, 16)?;
+    finding(
+        "find 16 letters in random ones",
+        text,
+        &text[LETTERS - 16..],
+    )?;
     let mut plain = vec![b'A'; LETTERS];
     plain[LETTERS - 1] = b'C';
-    finding("find 15 As and a C in As and a C", &plain, 16)?;
-    finding("find 999 As and a C in As and a C", &plain, 1000)?;
+    let last = |len: usize| &plain[LETTERS - len..];
+    finding("find 15 As and a C in As and a C", &plain, last(16))?;
+    finding(
+        "find 15 As and a G there: absent",
+        &plain,
+        b"AAAAAAAAAAAAAAAG",
+    )?;
+    finding(
+        "find a G and 15 As there: absent",
+        &plain,
+        b"GAAAAAAAAAAAAAAA",
+    )?;
+    finding("find 999 As and a C in As and a C", &plain, last(1000))?;
     storing(text)
 }
 
@@ -74,27 +89,29 @@ fn order(packed: &[u8], moved: &[u8], offset: usize) -> Result<(), Refusal> {
     let b = bases::View::new(moved, Chars(offset), LEN)?;
     let x = PackedSeq::from_raw_parts(packed, 0, LETTERS);
     let y = PackedSeq::from_raw_parts(moved, offset, LETTERS);
-    let name = |call: &str| format!("{call}, equal, at offsets 0 and {offset}");
+    let name = |call: &str| format!("compare for {call}, offsets 0 and {offset}");
+    let ours = |_: &mut ()| a.compare(b);
+    let equal = Ok((Ordering::Equal, LEN));
     job(
         &name("cmp_lcp"),
         (),
-        |()| a.cmp_lcp(b),
+        ours,
         |()| x.cmp_lcp(&y),
-        |(), a, b| a == Ok((Ordering::Equal, LEN)) && b == (Ordering::Equal, LETTERS),
+        |(), a, b| a == equal && b == (Ordering::Equal, LETTERS),
     );
     job(
         &name("cmp"),
         (),
-        |()| a.cmp(b),
+        ours,
         |()| x.cmp(&y),
-        |(), a, b| a == Ok(Ordering::Equal) && b == Ordering::Equal,
+        |(), a, b| a == equal && b == Ordering::Equal,
     );
     job(
-        &name("eq"),
+        &name("=="),
         (),
-        |()| a.eq(b),
+        ours,
         |()| x == y,
-        |(), a, b| a == Ok(true) && b,
+        |(), a, b| a == equal && b,
     );
     Ok(())
 }
@@ -115,17 +132,20 @@ fn short_words(
     );
 }
 
-/// The last letters of a text, in the text. The original has no such call: it is asked for the word at each place, and for a pattern
-/// longer than a word whether the views are equal.
-fn finding(name: &str, text: &[u8], len: usize) -> Result<(), Refusal> {
-    let theirs = packed_by::<PackedSeqVec>(text);
-    let (packed, all) = (inside::bytes(&theirs), theirs.as_slice());
+/// Letters in a text, whose last ones they are, or which does not have them. The original has no such call: it is asked for the word at
+/// each place, and for a pattern longer than a word whether the views are equal.
+fn finding(name: &str, text: &[u8], letters: &[u8]) -> Result<(), Refusal> {
+    let (theirs, sought) = (
+        packed_by::<PackedSeqVec>(text),
+        packed_by::<PackedSeqVec>(letters),
+    );
+    let (len, all, wanted) = (letters.len(), theirs.as_slice(), sought.as_slice());
     let last = LETTERS - len;
-    let view = bases::View::new(packed, Chars(0), LEN)?;
-    let pattern = bases::View::new(packed, Chars(last), Chars(len))?;
-    let same = |_: &(), a, b: Option<usize>| a == Ok(b.map(Chars)) && b == Some(last);
+    let view = bases::View::new(inside::bytes(&theirs), Chars(0), LEN)?;
+    let pattern = bases::View::new(inside::bytes(&sought), Chars(0), Chars(len))?;
+    let place = text.ends_with(letters).then_some(last);
+    let same = |_: &(), a, b: Option<usize>| a == Ok(b.map(Chars)) && b == place;
     let ours = |_: &mut ()| view.find(pattern);
-    let wanted = all.slice(last..LETTERS);
     if len <= 29 {
         let word = wanted.as_u64();
         let original = |_: &mut ()| (0..last + 1).find(|&p| all.slice(p..p + len).as_u64() == word);

@@ -15,7 +15,7 @@ fn main() -> Result<(), Refusal> {
     let mut letters = [0; 8];
     reverse.unpack(&mut letters)?;
     println!("reverse complement {}", String::from_utf8_lossy(&letters));
-    println!("order {:?}", track.view().cmp(reverse)?);
+    println!("order {:?}", track.view().compare(reverse)?.0);
 
     let pushed = track.push_seq(reverse)?;
     println!("glued from {} to {}", pushed.start.0, pushed.end.0);
@@ -28,7 +28,7 @@ fn main() -> Result<(), Refusal> {
     let (mut base_again, mut flag_again) = ([0; 64], [0; 64]);
     let len = form::read(&stored[..size], &mut base_again, &mut flag_again)?;
     let again = bases::View::new(&base_again, Chars(0), len)?;
-    println!("read back {}", again.eq(track.view())?);
+    println!("read back {}", again.compare(track.view())?.0.is_eq());
 
     let (mut count_buffer, mut entries) = ([0; 64], [0; 1]);
     let mut counted = counts::Store::clear(&mut count_buffer, &mut entries)?;

@@ -12,7 +12,7 @@
 //! let read = store.view();
 //! let mut other = [0; 64];
 //! let reverse = read.to_revcomp(&mut other)?;
-//! assert_eq!(read.cmp(reverse)?, std::cmp::Ordering::Less);
+//! assert_eq!(read.compare(reverse)?, (std::cmp::Ordering::Less, Chars(0)));
 //! assert_eq!(read.slice(Chars(1), Chars(3))?.as_u64()?, 0b1101);
 //! # Ok::<(), tsivelaro::Refusal>(())
 //! ```

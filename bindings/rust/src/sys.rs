@@ -44,12 +44,8 @@ extern "C" {
     pub fn tsiv_bases_unpack(bytes: *const u8, bytes_size: usize, offset: usize, len: usize, out: *mut u8, out_size: usize) -> u32;
     pub fn tsiv_bases_to_revcomp(bytes: *const u8, bytes_size: usize, offset: usize, len: usize, out: *mut u8, out_size: usize) -> u32;
     pub fn tsiv_flags_to_revcomp(bytes: *const u8, bytes_size: usize, offset: usize, len: usize, out: *mut u8, out_size: usize) -> u32;
-    pub fn tsiv_bases_cmp_lcp(a: *const u8, a_size: usize, a_offset: usize, a_len: usize, b: *const u8, b_size: usize, b_offset: usize, b_len: usize, order: &mut i32, common: &mut usize) -> u32;
-    pub fn tsiv_flags_cmp_lcp(a: *const u8, a_size: usize, a_offset: usize, a_len: usize, b: *const u8, b_size: usize, b_offset: usize, b_len: usize, order: &mut i32, common: &mut usize) -> u32;
-    pub fn tsiv_bases_cmp(a: *const u8, a_size: usize, a_offset: usize, a_len: usize, b: *const u8, b_size: usize, b_offset: usize, b_len: usize, order: &mut i32) -> u32;
-    pub fn tsiv_flags_cmp(a: *const u8, a_size: usize, a_offset: usize, a_len: usize, b: *const u8, b_size: usize, b_offset: usize, b_len: usize, order: &mut i32) -> u32;
-    pub fn tsiv_bases_eq(a: *const u8, a_size: usize, a_offset: usize, a_len: usize, b: *const u8, b_size: usize, b_offset: usize, b_len: usize, equal: &mut bool) -> u32;
-    pub fn tsiv_flags_eq(a: *const u8, a_size: usize, a_offset: usize, a_len: usize, b: *const u8, b_size: usize, b_offset: usize, b_len: usize, equal: &mut bool) -> u32;
+    pub fn tsiv_bases_compare(a: *const u8, a_size: usize, a_offset: usize, a_len: usize, b: *const u8, b_size: usize, b_offset: usize, b_len: usize, order: &mut i32, common: &mut usize) -> u32;
+    pub fn tsiv_flags_compare(a: *const u8, a_size: usize, a_offset: usize, a_len: usize, b: *const u8, b_size: usize, b_offset: usize, b_len: usize, order: &mut i32, common: &mut usize) -> u32;
     pub fn tsiv_bases_find(text: *const u8, text_size: usize, text_offset: usize, text_len: usize, pattern: *const u8, pattern_size: usize, pattern_offset: usize, pattern_len: usize, there: &mut bool, place: &mut usize) -> u32;
     pub fn tsiv_flags_find(text: *const u8, text_size: usize, text_offset: usize, text_len: usize, pattern: *const u8, pattern_size: usize, pattern_offset: usize, pattern_len: usize, there: &mut bool, place: &mut usize) -> u32;
     pub fn tsiv_bases_least(a: *const u8, a_size: usize, a_offset: usize, a_len: usize, b: *const u8, b_size: usize, b_offset: usize, b_len: usize, second: &mut bool, at: &mut usize, size: &mut usize, part_offset: &mut usize, part_len: &mut usize) -> u32;

@@ -212,12 +212,13 @@ macro_rules! width {
                     Refusal::check(number).map(|()| View::unasked(out, Chars(0), self.len))
                 }
 
-                /// The order, and how many leading characters are equal.
-                pub fn cmp_lcp(self, b: View<'_>) -> Result<(Ordering, Chars), Refusal> {
+                /// The order, and how many leading characters are equal. The first differing character decides, else the shorter is first;
+                /// the order is `Equal` exactly if both have the same characters.
+                pub fn compare(self, b: View<'_>) -> Result<(Ordering, Chars), Refusal> {
                     let (mut order, mut common) = (0, 0);
-                    // SAFETY: the slices' own pointers and lengths, as in the three below.
+                    // SAFETY: the slices' own pointers and lengths, as in the two below.
                     let number = unsafe {
-                        call::cmp_lcp(
+                        call::compare(
                             self.bytes.as_ptr(), self.bytes.len(), self.offset.0, self.len.0,
                             b.bytes.as_ptr(), b.bytes.len(), b.offset.0, b.len.0,
                             &mut order, &mut common,
@@ -226,39 +227,10 @@ macro_rules! width {
                     Refusal::check(number).map(|()| (order.cmp(&0), Chars(common)))
                 }
 
-                /// The order: the first differing character decides, else the shorter is first.
-                #[allow(clippy::should_implement_trait)] // it can be refused
-                pub fn cmp(self, b: View<'_>) -> Result<Ordering, Refusal> {
-                    let mut order = 0;
-                    // SAFETY: as in `cmp_lcp`.
-                    let number = unsafe {
-                        call::cmp(
-                            self.bytes.as_ptr(), self.bytes.len(), self.offset.0, self.len.0,
-                            b.bytes.as_ptr(), b.bytes.len(), b.offset.0, b.len.0,
-                            &mut order,
-                        )
-                    };
-                    Refusal::check(number).map(|()| order.cmp(&0))
-                }
-
-                /// Whether both have the same characters.
-                pub fn eq(self, b: View<'_>) -> Result<bool, Refusal> {
-                    let mut equal = false;
-                    // SAFETY: as in `cmp_lcp`.
-                    let number = unsafe {
-                        call::eq(
-                            self.bytes.as_ptr(), self.bytes.len(), self.offset.0, self.len.0,
-                            b.bytes.as_ptr(), b.bytes.len(), b.offset.0, b.len.0,
-                            &mut equal,
-                        )
-                    };
-                    Refusal::check(number).map(|()| equal)
-                }
-
                 /// The least place where a pattern stands in it.
                 pub fn find(self, pattern: View<'_>) -> Result<Option<Chars>, Refusal> {
                     let (mut there, mut place) = (false, 0);
-                    // SAFETY: as in `cmp_lcp`.
+                    // SAFETY: as in `compare`.
                     let number = unsafe {
                         call::find(
                             self.bytes.as_ptr(), self.bytes.len(), self.offset.0, self.len.0,
@@ -273,7 +245,7 @@ macro_rules! width {
                 pub fn least(self, b: View<'a>) -> Result<View<'a>, Refusal> {
                     let mut second = false;
                     let (mut at, mut size, mut offset, mut len) = (0, 0, 0, 0);
-                    // SAFETY: as in `cmp_lcp`.
+                    // SAFETY: as in `compare`.
                     let number = unsafe {
                         call::least(
                             self.bytes.as_ptr(), self.bytes.len(), self.offset.0, self.len.0,
@@ -517,9 +489,7 @@ width! {
         revcomp_as_u64 = tsiv_bases_revcomp_as_u64,
         revcomp_as_u128 = tsiv_bases_revcomp_as_u128,
         to_revcomp = tsiv_bases_to_revcomp,
-        cmp_lcp = tsiv_bases_cmp_lcp,
-        cmp = tsiv_bases_cmp,
-        eq = tsiv_bases_eq,
+        compare = tsiv_bases_compare,
         find = tsiv_bases_find,
         least = tsiv_bases_least,
         clear = tsiv_bases_clear,
@@ -551,9 +521,7 @@ width! {
         revcomp_as_u64 = tsiv_flags_revcomp_as_u64,
         revcomp_as_u128 = tsiv_flags_revcomp_as_u128,
         to_revcomp = tsiv_flags_to_revcomp,
-        cmp_lcp = tsiv_flags_cmp_lcp,
-        cmp = tsiv_flags_cmp,
-        eq = tsiv_flags_eq,
+        compare = tsiv_flags_compare,
         find = tsiv_flags_find,
         least = tsiv_flags_least,
         clear = tsiv_flags_clear,

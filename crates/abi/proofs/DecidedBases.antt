@@ -2,12 +2,8 @@
 -- Assumes nothing.
 use mathlib.Core.Path.{sym, _∙_}
 use Rattle.codes.proofs.Permitted.{Once, skip}
-use Rattle.abi.proofs.bases.pair.tsiv_bases_cmp_lcp.Kinds as bases-cmp-lcp·kinds
-use Rattle.abi.proofs.bases.pair.tsiv_bases_cmp_lcp.Reads as bases-cmp-lcp
-use Rattle.abi.proofs.bases.pair.tsiv_bases_cmp.Kinds as bases-cmp·kinds
-use Rattle.abi.proofs.bases.pair.tsiv_bases_cmp.Reads as bases-cmp
-use Rattle.abi.proofs.bases.pair.tsiv_bases_eq.Kinds as bases-eq·kinds
-use Rattle.abi.proofs.bases.pair.tsiv_bases_eq.Reads as bases-eq
+use Rattle.abi.proofs.bases.pair.tsiv_bases_compare.Kinds as bases-compare·kinds
+use Rattle.abi.proofs.bases.pair.tsiv_bases_compare.Reads as bases-compare
 use Rattle.abi.proofs.bases.pair.tsiv_bases_find.Kinds as bases-find·kinds
 use Rattle.abi.proofs.bases.pair.tsiv_bases_find.Reads as bases-find
 use Rattle.abi.proofs.bases.pair.tsiv_bases_least.Kinds as bases-least·kinds
@@ -59,14 +55,8 @@ use Rattle.abi.proofs.bases.view.tsiv_bases_to_revcomp.Reads as bases-t
 use Rattle.abi.proofs.bases.view.tsiv_bases_unpack.Kinds as bases-unpack·kinds
 use Rattle.abi.proofs.bases.view.tsiv_bases_unpack.Reads as bases-unpack
 
-pub bases-cmp-lcp-decided : Once 4 bases-cmp-lcp·kinds.ps bases-cmp-lcp·kinds.r bases-cmp-lcp.Post
-bases-cmp-lcp-decided κs a x y v w p q = let e = p ∙ sym q in λ i. (e i .no, skip 6 (e i .values .0, (e i .values .1, tt)))
-
-pub bases-cmp-decided : Once 3 bases-cmp·kinds.ps bases-cmp·kinds.r bases-cmp.Post
-bases-cmp-decided κs a x y v w p q = let e = p ∙ sym q in λ i. (e i .no, skip 6 (e i .values, tt))
-
-pub bases-eq-decided : Once 3 bases-eq·kinds.ps bases-eq·kinds.r bases-eq.Post
-bases-eq-decided κs a x y v w p q = let e = p ∙ sym q in λ i. (e i .no, skip 6 (e i .values, tt))
+pub bases-compare-decided : Once 4 bases-compare·kinds.ps bases-compare·kinds.r bases-compare.Post
+bases-compare-decided κs a x y v w p q = let e = p ∙ sym q in λ i. (e i .no, skip 6 (e i .values .0, (e i .values .1, tt)))
 
 pub bases-find-decided : Once 4 bases-find·kinds.ps bases-find·kinds.r bases-find.Post
 bases-find-decided κs a x y v w p q = let e = p ∙ sym q in λ i. (e i .no, skip 6 (e i .values .0, (e i .values .1, tt)))

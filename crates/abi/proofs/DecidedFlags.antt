@@ -2,12 +2,8 @@
 -- Assumes nothing.
 use mathlib.Core.Path.{sym, _∙_}
 use Rattle.codes.proofs.Permitted.{Once, skip}
-use Rattle.abi.proofs.flags.pair.tsiv_flags_cmp_lcp.Kinds as flags-cmp-lcp·kinds
-use Rattle.abi.proofs.flags.pair.tsiv_flags_cmp_lcp.Reads as flags-cmp-lcp
-use Rattle.abi.proofs.flags.pair.tsiv_flags_cmp.Kinds as flags-cmp·kinds
-use Rattle.abi.proofs.flags.pair.tsiv_flags_cmp.Reads as flags-cmp
-use Rattle.abi.proofs.flags.pair.tsiv_flags_eq.Kinds as flags-eq·kinds
-use Rattle.abi.proofs.flags.pair.tsiv_flags_eq.Reads as flags-eq
+use Rattle.abi.proofs.flags.pair.tsiv_flags_compare.Kinds as flags-compare·kinds
+use Rattle.abi.proofs.flags.pair.tsiv_flags_compare.Reads as flags-compare
 use Rattle.abi.proofs.flags.pair.tsiv_flags_find.Kinds as flags-find·kinds
 use Rattle.abi.proofs.flags.pair.tsiv_flags_find.Reads as flags-find
 use Rattle.abi.proofs.flags.pair.tsiv_flags_least.Kinds as flags-least·kinds
@@ -61,14 +57,8 @@ use Rattle.abi.proofs.flags.window.tsiv_flags_fill_windows.Reads as fla
 use Rattle.abi.proofs.flags.window.tsiv_flags_step_windows.Kinds as flags-step-windows·kinds
 use Rattle.abi.proofs.flags.window.tsiv_flags_step_windows.Reads as flags-step-windows
 
-pub flags-cmp-lcp-decided : Once 4 flags-cmp-lcp·kinds.ps flags-cmp-lcp·kinds.r flags-cmp-lcp.Post
-flags-cmp-lcp-decided κs a x y v w p q = let e = p ∙ sym q in λ i. (e i .no, skip 6 (e i .values .0, (e i .values .1, tt)))
-
-pub flags-cmp-decided : Once 3 flags-cmp·kinds.ps flags-cmp·kinds.r flags-cmp.Post
-flags-cmp-decided κs a x y v w p q = let e = p ∙ sym q in λ i. (e i .no, skip 6 (e i .values, tt))
-
-pub flags-eq-decided : Once 3 flags-eq·kinds.ps flags-eq·kinds.r flags-eq.Post
-flags-eq-decided κs a x y v w p q = let e = p ∙ sym q in λ i. (e i .no, skip 6 (e i .values, tt))
+pub flags-compare-decided : Once 4 flags-compare·kinds.ps flags-compare·kinds.r flags-compare.Post
+flags-compare-decided κs a x y v w p q = let e = p ∙ sym q in λ i. (e i .no, skip 6 (e i .values .0, (e i .values .1, tt)))
 
 pub flags-find-decided : Once 4 flags-find·kinds.ps flags-find·kinds.r flags-find.Post
 flags-find-decided κs a x y v w p q = let e = p ∙ sym q in λ i. (e i .no, skip 6 (e i .values .0, (e i .values .1, tt)))

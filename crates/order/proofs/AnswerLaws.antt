@@ -7,17 +7,14 @@ use lib.IntN.{ℤ, pos, negsuc}
 use Rattle.order.specs.Order.{orderNumber}
 use Rattle.order.specs.declared.answers.Order.{Order}
 use Rattle.order.specs.declared.answers.Order.the-variants.{Less, Equal, Greater}
+use Rattle.codes.specs.Refusals.{answer}
 use Rattle.codes.specs.declared.refusals.Outcome.{Outcome}
 use Rattle.codes.specs.declared.refusals.Outcome.the-variants.{Done, Refused}
 use Rattle.codes.specs.declared.units.Chars.{Chars}
-use Rattle.codes.proofs.RefusalLaws.{Told, outcomeAt, outcomeAt-number}
-use Rattle.order.specs.Answers.{comparedSays, orderedSays, equalitySays, foundSays, leastSays}
+use Rattle.codes.proofs.RefusalLaws.{Told, outcomeAt, outcomeAt-number, says-once}
+use Rattle.order.specs.Answers.{comparedSays, foundSays, leastSays}
 use Rattle.order.specs.declared.answers.Compared.{Compared}
 use Rattle.order.specs.declared.answers.Compared.the-variants as Compared
-use Rattle.order.specs.declared.answers.Ordered.{Ordered}
-use Rattle.order.specs.declared.answers.Ordered.the-variants as Ordered
-use Rattle.order.specs.declared.answers.Equality.{Equality}
-use Rattle.order.specs.declared.answers.Equality.the-variants as Equality
 use Rattle.order.specs.declared.answers.Found.{Found}
 use Rattle.order.specs.declared.answers.Found.the-variants as Found
 use Rattle.order.specs.declared.answers.Least.{Least}
@@ -27,19 +24,23 @@ abbrev count : ℕ → Chars
 count n = record { 0 = n }
 
 -- the order of a number
-abbrev orderAt : ℤ → Order
+abbrev pub orderAt : ℤ → Order
 orderAt (negsuc n) = Less
 orderAt (pos zero) = Equal
 orderAt (pos (suc n)) = Greater
 
-order-back : (o : Order) → o ≡ orderAt (orderNumber o)
+pub order-back : (o : Order) → o ≡ orderAt (orderNumber o)
 order-back Less = refl
 order-back Equal = refl
 order-back Greater = refl
 
+-- the answer of an outcome, an order and a common length
+abbrev pub comparedBy : Outcome → Order → ℕ → Compared
+comparedBy Done o n = Compared.Is o (count n)
+comparedBy (Refused r) o n = Compared.Refused r
+
 abbrev comparedOf : Outcome → ℤ × ℕ → Compared
-comparedOf Done v = Compared.Is (orderAt (v .0)) (count (v .1))
-comparedOf (Refused r) v = Compared.Refused r
+comparedOf q v = comparedBy q (orderAt (v .0)) (v .1)
 
 compared-back : (r : Compared) → r ≡ comparedOf (outcomeAt (comparedSays r .no)) (comparedSays r .values)
 compared-back (Compared.Is o n) = ap (λ (x : Order). Compared.Is x n) (order-back o) ∙ sym (ap (λ (p : Outcome). comparedOf p (orderNumber o, n .0)) (outcomeAt-number Done))
@@ -48,27 +49,12 @@ compared-back (Compared.Refused r) = sym (ap (λ (o : Outcome). comparedOf o (po
 pub compared-told : Told comparedSays
 compared-told = record { make = comparedOf; back = compared-back }
 
-abbrev orderedOf : Outcome → ℤ → Ordered
-orderedOf Done v = Ordered.Is (orderAt v)
-orderedOf (Refused r) v = Ordered.Refused r
+says-compared : (q : Outcome) (o : Order) (n : ℕ) → comparedSays (comparedBy q o n) ≡ answer q (orderNumber o, n) (pos 0, 0)
+says-compared Done o n = refl
+says-compared (Refused r) o n = refl
 
-ordered-back : (r : Ordered) → r ≡ orderedOf (outcomeAt (orderedSays r .no)) (orderedSays r .values)
-ordered-back (Ordered.Is o) = ap Ordered.Is (order-back o) ∙ sym (ap (λ (p : Outcome). orderedOf p (orderNumber o)) (outcomeAt-number Done))
-ordered-back (Ordered.Refused r) = sym (ap (λ (o : Outcome). orderedOf o (pos 0)) (outcomeAt-number (Refused r)))
-
-pub ordered-told : Told orderedSays
-ordered-told = record { make = orderedOf; back = ordered-back }
-
-abbrev equalityOf : Outcome → Bool → Equality
-equalityOf Done v = Equality.Is v
-equalityOf (Refused r) v = Equality.Refused r
-
-equality-back : (r : Equality) → r ≡ equalityOf (outcomeAt (equalitySays r .no)) (equalitySays r .values)
-equality-back (Equality.Is b) = sym (ap (λ (o : Outcome). equalityOf o b) (outcomeAt-number Done))
-equality-back (Equality.Refused r) = sym (ap (λ (o : Outcome). equalityOf o false) (outcomeAt-number (Refused r)))
-
-pub equality-told : Told equalitySays
-equality-told = record { make = equalityOf; back = equality-back }
+pub compared-is : (r : Compared) (q : Outcome) (o : Order) (n : ℕ) → comparedSays r ≡ answer q (orderNumber o, n) (pos 0, 0) → r ≡ comparedBy q o n
+compared-is r q o n e = says-once compared-told r (comparedBy q o n) (e ∙ sym (says-compared q o n))
 
 abbrev placeAt : Bool → Chars → Found
 placeAt true p = Found.At p

@@ -12,25 +12,17 @@ use Rattle.codes.proofs.Permitted.{Decided}
 use Rattle.codes.proofs.RefusalLaws.{says-once}
 use Rattle.fields.specs.Spans.{spanOf}
 use Rattle.views.proofs.Decided.{DecidedBy, both, SamePart, part-decides}
-use Rattle.order.proofs.AnswerLaws.{compared-told, ordered-told, equality-told, found-told, least-told}
-use Rattle.order.proofs.bases.cmp_lcp.Kinds as bases-cmp-lcp·kinds
-use Rattle.order.proofs.bases.cmp_lcp.Reads as bases-cmp-lcp
-use Rattle.order.proofs.bases.cmp.Kinds as bases-cmp·kinds
-use Rattle.order.proofs.bases.cmp.Reads as bases-cmp
-use Rattle.order.proofs.bases.eq.Kinds as bases-eq·kinds
-use Rattle.order.proofs.bases.eq.Reads as bases-eq
+use Rattle.order.proofs.AnswerLaws.{compared-told, found-told, least-told}
+use Rattle.order.proofs.bases.compare.Kinds as bases-compare·kinds
+use Rattle.order.proofs.bases.compare.Reads as bases-compare
 use Rattle.order.proofs.bases.find.Kinds as bases-find·kinds
 use Rattle.order.proofs.bases.find.Reads as bases-find
 use Rattle.order.proofs.bases.least_numbers.Kinds as bases-least-numbers·kinds
 use Rattle.order.proofs.bases.least_numbers.Reads as bases-least-numbers
 use Rattle.order.proofs.bases.least.Reads as bases-least
 use Rattle.order.proofs.bases.least_part as bases-least-part
-use Rattle.order.proofs.flags.cmp_lcp.Kinds as flags-cmp-lcp·kinds
-use Rattle.order.proofs.flags.cmp_lcp.Reads as flags-cmp-lcp
-use Rattle.order.proofs.flags.cmp.Kinds as flags-cmp·kinds
-use Rattle.order.proofs.flags.cmp.Reads as flags-cmp
-use Rattle.order.proofs.flags.eq.Kinds as flags-eq·kinds
-use Rattle.order.proofs.flags.eq.Reads as flags-eq
+use Rattle.order.proofs.flags.compare.Kinds as flags-compare·kinds
+use Rattle.order.proofs.flags.compare.Reads as flags-compare
 use Rattle.order.proofs.flags.find.Kinds as flags-find·kinds
 use Rattle.order.proofs.flags.find.Reads as flags-find
 use Rattle.order.proofs.flags.least_numbers.Kinds as flags-least-numbers·kinds
@@ -38,14 +30,8 @@ use Rattle.order.proofs.flags.least_numbers.Reads as flags-least-number
 use Rattle.order.proofs.flags.least.Reads as flags-least
 use Rattle.order.proofs.flags.least_part as flags-least-part
 
-pub bases-cmp-lcp-decided : Decided 2 bases-cmp-lcp·kinds.ps bases-cmp-lcp·kinds.r bases-cmp-lcp.Post
-bases-cmp-lcp-decided κs a x y s t p q = says-once compared-told x y (p ∙ sym q)
-
-pub bases-cmp-decided : Decided 2 bases-cmp·kinds.ps bases-cmp·kinds.r bases-cmp.Post
-bases-cmp-decided κs a x y s t p q = says-once ordered-told x y (p ∙ sym q)
-
-pub bases-eq-decided : Decided 2 bases-eq·kinds.ps bases-eq·kinds.r bases-eq.Post
-bases-eq-decided κs a x y s t p q = says-once equality-told x y (p ∙ sym q)
+pub bases-compare-decided : Decided 2 bases-compare·kinds.ps bases-compare·kinds.r bases-compare.Post
+bases-compare-decided κs a x y s t p q = says-once compared-told x y (p ∙ sym q)
 
 pub bases-find-decided : Decided 2 bases-find·kinds.ps bases-find·kinds.r bases-find.Post
 bases-find-decided κs a x y s t p q = says-once found-told x y (p ∙ sym q)
@@ -57,14 +43,8 @@ bases-least-numbers-decided κs a x y s t p q = says-once least-told x y (p ∙ 
 pub bases-least-decided : (κs : _) (a : _) (x y : _) (s t : _) → bases-least.Post κs a x s → bases-least.Post κs a y t → spanOf x ≡ spanOf y
 bases-least-decided κs a x y s t p q = p ∙ sym q
 
-pub flags-cmp-lcp-decided : Decided 2 flags-cmp-lcp·kinds.ps flags-cmp-lcp·kinds.r flags-cmp-lcp.Post
-flags-cmp-lcp-decided κs a x y s t p q = says-once compared-told x y (p ∙ sym q)
-
-pub flags-cmp-decided : Decided 2 flags-cmp·kinds.ps flags-cmp·kinds.r flags-cmp.Post
-flags-cmp-decided κs a x y s t p q = says-once ordered-told x y (p ∙ sym q)
-
-pub flags-eq-decided : Decided 2 flags-eq·kinds.ps flags-eq·kinds.r flags-eq.Post
-flags-eq-decided κs a x y s t p q = says-once equality-told x y (p ∙ sym q)
+pub flags-compare-decided : Decided 2 flags-compare·kinds.ps flags-compare·kinds.r flags-compare.Post
+flags-compare-decided κs a x y s t p q = says-once compared-told x y (p ∙ sym q)
 
 pub flags-find-decided : Decided 2 flags-find·kinds.ps flags-find·kinds.r flags-find.Post
 flags-find-decided κs a x y s t p q = says-once found-told x y (p ∙ sym q)

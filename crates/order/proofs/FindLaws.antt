@@ -5,14 +5,17 @@ use mathlib.Core.List.{List}
 use mathlib.Core.Option.{Option, some, none}
 use mathlib.Core.Path.{_≡_, refl, sym, ap, _∙_}
 use Prim.Native.Nat.{ℕ, zero, suc, _+_, _≤_, _<_, zero-le, suc-le-suc}
-use native.Mathlib.Nat.{zero-add, suc-add, le-of-suc-le-suc, not-suc-le-zero}
+use native.Mathlib.Nat.{zero-add, suc-add, add-assoc, le-of-suc-le-suc, lt-of-lt-of-le, not-suc-le-zero}
 use native.Mathlib.Omega.{arith}
 use lib.Dec.{eqb}
 use borrow.Author.Tests.{eq-eqb, eqb-true}
 use Rattle.codes.specs.Codes.{pick, charAt, tab, chars}
 use Rattle.codes.specs.Refusals.{answer}
 use Rattle.codes.specs.declared.refusals.Outcome.the-variants.{Done}
-use Rattle.order.specs.Order.{stands, oneOn, placeOf, placed}
+use Rattle.codes.proofs.CharLaws.{getD-chars}
+use Rattle.order.specs.Order.{common, stands, oneOn, placeOf, placed}
+use Rattle.order.proofs.CommonLaws.{common-chars}
+use Rattle.order.proofs.OrderLaws.{from-zero, common-same}
 
 -- m characters g stand among n characters f at k
 abbrev pub StandsAt : (ℕ → ℕ) → ℕ → (ℕ → ℕ) → ℕ → ℕ → Type 0
@@ -28,11 +31,6 @@ stands-all (suc m) (suc n) f g l h =
 both-true : (a b : Bool) → a && b ≡ true → (a ≡ true) × (b ≡ true)
 both-true true b e = (refl, e)
 both-true false b e = let z : _≡_ {A = ℕ} 0 1 = cc in absurd (omega arith)
-
--- what holds of 0, and of each number above
-from-zero : (m : ℕ) (P : ℕ → Type 0) → P 0 → ((i : ℕ) → i < m → P (suc i)) → (i : ℕ) → i < suc m → P i
-from-zero m P p h zero l = p
-from-zero m P p h (suc i) l = h i (le-of-suc-le-suc l)
 
 stands-only : (m n : ℕ) (f g : ℕ → ℕ) → stands (tab m g) (tab n f) ≡ true → (m ≤ n) × ((i : ℕ) → i < m → f i ≡ g i)
 unfolding stands tab
@@ -82,10 +80,28 @@ place-none m (suc n) f g h =
     ap (λ (b : Bool). pick b (some 0) (oneOn (placeOf (tab m g) (tab n (λ i. f (suc i)))))) (stands-not m (suc n) f g (h 0))
     ∙ ap oneOn (place-none m n (λ i. f (suc i)) g (λ j z. h (suc j) (back m n f g j z)))
 
--- a pattern view and a text view: the pattern stands at k
-module _ (w : ℕ) (p : List ℕ) (po pl : ℕ) (t : List ℕ) (to tl : ℕ) where
+-- a text view and a pattern view: the pattern stands at k
+module _ (w : ℕ) (t : List ℕ) (to tl : ℕ) (p : List ℕ) (po pl : ℕ) where
   abbrev pub Stands : ℕ → Type 0
   Stands k = StandsAt (λ i. charAt w t (to + i)) tl (λ i. charAt w p (po + i)) pl k
+
+  -- what the text at k, as long as the pattern, has in common with it
+  abbrev pub commonAt : ℕ → ℕ
+  commonAt k = common (chars w t (to + k) pl) (chars w p po pl)
+
+  pub stands-whole : (k : ℕ) → k + pl ≤ tl → pl ≤ commonAt k → Stands k
+  stands-whole k h l = (
+    h,
+    λ i m.
+        sym (getD-chars w t (to + k) pl i m ∙ ap (charAt w t) (add-assoc to k i))
+        ∙ common-same (chars w t (to + k) pl) (chars w p po pl) i (lt-of-lt-of-le m l)
+        ∙ getD-chars w p po pl i m,
+  )
+
+  pub stands-short : (k : ℕ) → commonAt k < pl → Stands k → ⊥
+  stands-short k l s =
+      let e = common-chars w t (to + k) pl p po pl pl (omega arith) (omega arith) (λ i m. ap (charAt w t) (add-assoc to k i) ∙ s .1 i m) (λ h _ _. omega arith) in
+      omega (arith, e)
 
   pub found-at : (k : ℕ) → Stands k → ((j : ℕ) → j < k → Stands j → ⊥) → answer Done (true, k) (false, 0) ≡ answer Done (placed (placeOf (chars w p po pl) (chars w t to tl))) (false, 0)
   unfolding chars

@@ -5,7 +5,7 @@ use mathlib.Core.List.{List}
 use mathlib.Core.Path.{_≡_, refl, sym, ap, _∙_}
 use Prim.Native.Nat.{ℕ, _%_}
 use denote.Ref.{RefT}
-use Rattle.codes.specs.Codes.{per, pick}
+use Rattle.codes.specs.Codes.{per, pick, chars}
 use Rattle.codes.specs.Refusals.{Answer, answer, ifDone}
 use Rattle.codes.specs.declared.refusals.Outcome.{Outcome}
 use Rattle.codes.specs.declared.refusals.Outcome.the-variants.{Done, Refused}
@@ -17,16 +17,33 @@ use Rattle.fields.specs.declared.inner.parts.Numbers.{Numbers}
 use Rattle.views.specs.Answers.{partSays}
 use Rattle.views.specs.Views.{Lent, lent, empty, normal}
 use Rattle.views.proofs.PartLaws.{part-of, numbers-outcome}
-use Rattle.order.specs.Order.{pairOutcome, pairOrder, isSecond, choice, chosen, numbersIn}
+use Rattle.order.specs.Answers.{comparedSays}
+use Rattle.order.specs.Order.{common, pairOutcome, pairOrder, compared, isSecond, choice, chosen, numbersIn}
+use Rattle.order.specs.declared.answers.Compared.{Compared}
+use Rattle.order.specs.declared.answers.Compared.the-variants as Compared
+use Rattle.order.specs.declared.answers.Order.{Order}
 use Rattle.order.specs.declared.inner.least.Choice.{Choice}
+use Rattle.order.proofs.AnswerLaws.{comparedBy, compared-is}
 
 -- by the outcome, and whether the second comes first
-abbrev choiceBy : Outcome → Bool → Choice
+abbrev pub choiceBy : Outcome → Bool → Choice
 choiceBy q b = record { second = ifDone q b false; outcome = q }
 
-pub choice-is : (w : ℕ) (xs : List ℕ) (ao al : ℕ) (bs : List ℕ) (bo bl : ℕ) (q : Outcome) (b : Bool)
-    → q ≡ pairOutcome w xs ao al bs bo bl → b ≡ isSecond (pairOrder w xs ao al bs bo bl) → choiceBy q b ≡ choice w xs ao al bs bo bl
-choice-is w xs ao al bs bo bl q b e f = λ i. choiceBy (e i) (f i)
+-- the choice by what comparing answers
+abbrev pub choiceOf : Compared → Choice
+choiceOf (Compared.Is o n) = choiceBy Done (isSecond o)
+choiceOf (Compared.Refused r) = choiceBy (Refused r) false
+
+choice-by : (q : Outcome) (o : Order) (n : ℕ) → choiceOf (comparedBy q o n) ≡ choiceBy q (isSecond o)
+choice-by Done o n = refl
+choice-by (Refused r) o n = refl
+
+pub choice-compared : (w : ℕ) (xs : List ℕ) (ao al : ℕ) (bs : List ℕ) (bo bl : ℕ) (r : Compared) → comparedSays r ≡ compared w xs ao al bs bo bl → choiceOf r ≡ choice w xs ao al bs bo bl
+unfolding compared
+choice-compared w xs ao al bs bo bl r e =
+    let order : Order = pairOrder w xs ao al bs bo bl in
+    let n : ℕ = common (chars w xs ao al) (chars w bs bo bl) in
+    ap choiceOf (compared-is r (pairOutcome w xs ao al bs bo bl) order n e) ∙ choice-by (pairOutcome w xs ao al bs bo bl) order n
 
 -- numbers that are refused are zeros
 pub numbers-refused : (n : Numbers) (q : Outcome) (v : ℕ × ℕ) (r : Refusal) → numbersSay n ≡ answer q v (0, 0) → n .outcome ≡ Refused r → answer (Refused r) (0, 0) (0, 0) ≡ numbersSay n

@@ -1,9 +1,10 @@
 pub mod OrderLaws
-pub mod LcpLaws
+pub mod CommonLaws
 pub mod FindLaws
 pub mod LeastLaws
 pub mod LeastWalk
 pub mod Viewed
 pub mod AnswerLaws
+pub mod EqualIsZero
 pub mod Decided
 pub mod Lowest

@@ -11,19 +11,13 @@ use Rattle.codes.specs.Codes.{IsWidth, chars, pick}
 use Rattle.codes.specs.Refusals.{answer, first, viewTests}
 use Rattle.codes.specs.declared.refusals.Outcome.{Outcome}
 use Rattle.codes.specs.declared.refusals.Outcome.the-variants.{Done}
-use Rattle.order.specs.Order.{pairOutcome, pairOrder, pairTests, compare, common, placeOf, orderNumber, compared, ordered, isEqual, equalled, placed, found, isSecond, chosen}
+use Rattle.order.specs.Order.{pairOutcome, pairOrder, compare, common, placeOf, orderNumber, compared, placed, found, isSecond, chosen}
 use Rattle.fields.specs.Spans.{Span}
 use Rattle.codes.proofs.CharLaws.{same-length}
-use Rattle.codes.proofs.Viewed.{Same, view-passed}
+use Rattle.codes.proofs.Viewed.{Same}
 use Rattle.views.specs.Views.{Lent, empty, normal}
 use Rattle.views.proofs.SliceLaws.{Holds, held, normal-holds}
-
--- two accepted views are accepted together
-pair-done : (w m ao al n bo bl : ℕ) → first (viewTests w m ao al) ≡ Done → first (viewTests w n bo bl) ≡ Done → first (pairTests w m ao al n bo bl) ≡ Done
-pair-done w m ao al n bo bl e f =
-    let p = view-passed w m ao al e in
-    let q = view-passed w n bo bl f in
-    simp (p .0, p .1, q .0, q .1)
+use Rattle.order.proofs.OrderLaws.{pair-done}
 
 -- the part that comes first is an accepted view, with the characters of the view that does
 module _ {w : ℕ} (W : IsWidth w) (s : Span) (ao al : ℕ) (t : Span) (bo bl : ℕ) where
@@ -55,14 +49,6 @@ module _ {w : ℕ} {us : List ℕ} {ao al : ℕ} {xs : List ℕ} {xo xl : ℕ} (
   pub compared-viewed : compared w us ao al bs bo bl ≡ compared w xs xo xl ys yo yl
   unfolding compared
   compared-viewed = pair-viewed (λ q cs ds. answer q (orderNumber (compare cs ds), common cs ds) (pos 0, 0))
-
-  pub ordered-viewed : ordered w us ao al bs bo bl ≡ ordered w xs xo xl ys yo yl
-  unfolding ordered
-  ordered-viewed = pair-viewed (λ q cs ds. answer q (orderNumber (compare cs ds)) (pos 0))
-
-  pub equalled-viewed : equalled w us ao al bs bo bl ≡ equalled w xs xo xl ys yo yl
-  unfolding equalled
-  equalled-viewed = pair-viewed (λ q cs ds. answer q (isEqual (compare cs ds)) false)
 
   pub found-viewed : found w us ao al bs bo bl ≡ found w xs xo xl ys yo yl
   unfolding found

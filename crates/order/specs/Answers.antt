@@ -8,10 +8,6 @@ use Rattle.codes.specs.declared.refusals.Outcome.the-variants.{Done, Refused}
 use Rattle.order.specs.Order.{orderNumber}
 use Rattle.order.specs.declared.answers.Compared.{Compared}
 use Rattle.order.specs.declared.answers.Compared.the-variants as Compared
-use Rattle.order.specs.declared.answers.Ordered.{Ordered}
-use Rattle.order.specs.declared.answers.Ordered.the-variants as Ordered
-use Rattle.order.specs.declared.answers.Equality.{Equality}
-use Rattle.order.specs.declared.answers.Equality.the-variants as Equality
 use Rattle.order.specs.declared.answers.Found.{Found}
 use Rattle.order.specs.declared.answers.Found.the-variants as Found
 use Rattle.order.specs.declared.answers.Least.{Least}
@@ -20,14 +16,6 @@ use Rattle.order.specs.declared.answers.Least.the-variants as Least
 abbrev pub comparedSays : Compared → Answer (ℤ × ℕ)
 comparedSays (Compared.Is o n) = answer Done (orderNumber o, n .0) (pos 0, 0)
 comparedSays (Compared.Refused r) = answer (Refused r) (pos 0, 0) (pos 0, 0)
-
-abbrev pub orderedSays : Ordered → Answer ℤ
-orderedSays (Ordered.Is o) = answer Done (orderNumber o) (pos 0)
-orderedSays (Ordered.Refused r) = answer (Refused r) (pos 0) (pos 0)
-
-abbrev pub equalitySays : Equality → Answer Bool
-equalitySays (Equality.Is b) = answer Done b false
-equalitySays (Equality.Refused r) = answer (Refused r) false false
 
 -- whether it was found, and the place
 abbrev pub foundSays : Found → Answer (Bool × ℕ)

@@ -22,12 +22,6 @@ orderNumber Less = negsuc 0
 orderNumber Equal = pos 0
 orderNumber Greater = pos 1
 
--- neither comes first
-abbrev pub isEqual : Order → Bool
-isEqual Less = false
-isEqual Equal = true
-isEqual Greater = false
-
 -- the second comes first; at a tie the first does
 abbrev pub isSecond : Order → Bool
 isSecond Less = false
@@ -82,12 +76,6 @@ module _ (w : ℕ) (xs : List ℕ) (ao al : ℕ) (bs : List ℕ) (bo bl : ℕ) w
   -- the order, and the count of equal leading characters
   unfoldable pub compared : Answer (ℤ × ℕ)
   compared = answer pairOutcome (orderNumber pairOrder, common (chars w xs ao al) (chars w bs bo bl)) (pos 0, 0)
-
-  unfoldable pub ordered : Answer ℤ
-  ordered = answer pairOutcome (orderNumber pairOrder) (pos 0)
-
-  unfoldable pub equalled : Answer Bool
-  equalled = answer pairOutcome (isEqual pairOrder) false
 
   -- the text is the first view, the pattern the second
   unfoldable pub found : Answer (Bool × ℕ)

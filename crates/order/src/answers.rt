@@ -14,16 +14,6 @@ pub enum Compared {
     Refused(Refusal),
 }
 
-pub enum Ordered {
-    Is(Order),
-    Refused(Refusal),
-}
-
-pub enum Equality {
-    Is(bool),
-    Refused(Refusal),
-}
-
 // The least place of a pattern in a text.
 pub enum Found {
     At(Chars),

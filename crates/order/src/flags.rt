@@ -1,9 +1,7 @@
 // Two views of flags: every call at width 1.
 use crate::answers::Compared;
-use crate::answers::Equality;
 use crate::answers::Found;
 use crate::answers::Least;
-use crate::answers::Ordered;
 use crate::inner::compare;
 use crate::inner::find::find_views;
 use crate::inner::least;
@@ -13,28 +11,14 @@ use views::view::View;
 ghost use mathlib.Core.Path.{_≡_};
 ghost use Rattle.fields.specs.Spans.{spanOf};
 ghost use Rattle.views.specs.Answers.{partSays};
-ghost use Rattle.order.specs.Answers.{comparedSays, orderedSays, equalitySays, foundSays, leastSays};
-ghost use Rattle.order.specs.Order.{compared, ordered, equalled, found, chosen, numbersIn};
+ghost use Rattle.order.specs.Answers.{comparedSays, foundSays, leastSays};
+ghost use Rattle.order.specs.Order.{compared, found, chosen, numbersIn};
 
-// The order of two views, and the count of their equal leading characters.
-pub fn cmp_lcp(a: &[u8], ao: Chars, al: Chars, b: &[u8], bo: Chars, bl: Chars) -> Compared
+// The order of two views, and the count of their equal leading characters. They are equal where neither comes first.
+pub fn compare(a: &[u8], ao: Chars, al: Chars, b: &[u8], bo: Chars, bl: Chars) -> Compared
     ensures { λ r. ⌜ comparedSays r ≡ compared 1 (now (a .entry)) (ao .0) (al .0) (now (b .entry)) (bo .0) (bl .0) ⌝ }
 {
-    compare::cmp_lcp(1, a, ao, al, b, bo, bl)
-}
-
-// The order of two views.
-pub fn cmp(a: &[u8], ao: Chars, al: Chars, b: &[u8], bo: Chars, bl: Chars) -> Ordered
-    ensures { λ r. ⌜ orderedSays r ≡ ordered 1 (now (a .entry)) (ao .0) (al .0) (now (b .entry)) (bo .0) (bl .0) ⌝ }
-{
-    compare::cmp(1, a, ao, al, b, bo, bl)
-}
-
-// Whether two views have the same characters.
-pub fn eq(a: &[u8], ao: Chars, al: Chars, b: &[u8], bo: Chars, bl: Chars) -> Equality
-    ensures { λ r. ⌜ equalitySays r ≡ equalled 1 (now (a .entry)) (ao .0) (al .0) (now (b .entry)) (bo .0) (bl .0) ⌝ }
-{
-    compare::eq(1, a, ao, al, b, bo, bl)
+    compare::compare(1, a, ao, al, b, bo, bl)
 }
 
 // The least place of a pattern in a text.

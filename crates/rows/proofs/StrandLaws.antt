@@ -14,19 +14,19 @@ use Rattle.codes.specs.Words.{packed}
 use Rattle.codes.specs.declared.refusals.Outcome.{Outcome}
 use Rattle.codes.specs.declared.refusals.Outcome.the-variants.{Done, Refused}
 use Rattle.codes.specs.declared.refusals.Refusal.{Refusal}
+use Rattle.codes.specs.declared.units.Chars.{Chars}
 use Rattle.codes.proofs.CharLaws.{length-chars, chars-ext, chars-fit, length-pack, unpacked}
 use Rattle.codes.proofs.CodeLaws.{complement-fits}
-use Rattle.codes.proofs.RefusalLaws.{says-once}
 use Rattle.codes.proofs.WidthLaws.{width-2, per-pos}
 use Rattle.codes.proofs.WordLaws.{Below, Below-reverse, Below-through}
-use Rattle.order.proofs.AnswerLaws.{ordered-told}
-use Rattle.order.specs.Answers.{orderedSays}
-use Rattle.order.specs.Order.{compare, orderNumber, pairOutcome, ordered}
+use Rattle.order.proofs.AnswerLaws.{comparedBy, compared-is}
+use Rattle.order.specs.Answers.{comparedSays}
+use Rattle.order.specs.Order.{compare, common, orderNumber, pairOutcome, compared}
 use Rattle.fields.specs.Fields.{flipped}
 use Rattle.writes.specs.Writes.{flipOutcome, flippedOver}
 use Rattle.order.specs.declared.answers.Order.{Order}
-use Rattle.order.specs.declared.answers.Ordered.{Ordered}
-use Rattle.order.specs.declared.answers.Ordered.the-variants as Ordered
+use Rattle.order.specs.declared.answers.Compared.{Compared}
+use Rattle.order.specs.declared.answers.Compared.the-variants as Compared
 
 -- a view of the front of a buffer
 chars-front : {w : ℕ} → IsWidth w → (xs ys : List ℕ) (n : ℕ) → n ≤ length xs * per w → chars w (xs ++ ys) 0 n ≡ chars w xs 0 n
@@ -77,19 +77,19 @@ module _ (bs other : List ℕ) (n : ℕ) (h : n ≤ 16384) (lb : length bs ≡ 4
         let d : o ≡ Done = e ∙ ap₂ (λ (a b : ℕ). flipOutcome 2 bs a b other) ez em ∙ flip-done in
         w ∙ ap₂ (λ (a b : ℕ). ifDone o (flippedOver 2 bs a b other) other) ez em ∙ ap (λ (x : Outcome). ifDone x (flippedOver 2 bs 0 n other) other) d
 
-    pub strand-order : (r : Ordered) → length other′ ≡ length other → orderedSays r ≡ ordered 2 bs z m other′ z m → r ≡ Ordered.Is (compare cs (flipped 2 cs))
-    unfolding ordered
+    pub strand-order : (r : Compared) → length other′ ≡ length other → comparedSays r ≡ compared 2 bs z m other′ z m → r ≡ comparedBy Done (compare cs (flipped 2 cs)) (common cs (flipped 2 cs))
+    unfolding compared
     strand-order r l s =
-        says-once ordered-told r (Ordered.Is (compare cs (flipped 2 cs)))
+        compared-is r Done (compare cs (flipped 2 cs)) (common cs (flipped 2 cs))
         (s
-        ∙ ap₂ (λ (a b : ℕ). ordered 2 bs a b other′ a b) ez em
-        ∙ ap₂ (λ (x : Outcome) (y : List ℕ). answer x (orderNumber (compare cs y)) (pos 0)) (pair-done other′ l) (ap (λ (x : List ℕ). chars 2 x 0 n) flip-left ∙ flipped-chars))
+        ∙ ap₂ (λ (a b : ℕ). compared 2 bs a b other′ a b) ez em
+        ∙ ap₂ (λ (x : Outcome) (y : List ℕ). answer x (orderNumber (compare cs y), common cs y) (pos 0, 0)) (pair-done other′ l) (ap (λ (x : List ℕ). chars 2 x 0 n) flip-left ∙ flipped-chars))
 
 -- the order in an answer, and none in a refusal
-pub is-order : (r : Ordered) (p o : Order) → r ≡ Ordered.Is p → r ≡ Ordered.Is o → p ≡ o
-is-order r p o e f = cc
+pub is-order : (r : Compared) (p o : Order) (k n : Chars) → r ≡ Compared.Is p k → r ≡ Compared.Is o n → p ≡ o
+is-order r p o k n e f = cc
 
-pub never-refused : (r : Ordered) (x : Refusal) (o : Order) → r ≡ Ordered.Refused x → r ≡ Ordered.Is o → ⊥
-never-refused r x o e f =
+pub never-refused : (r : Compared) (x : Refusal) (o : Order) (n : Chars) → r ≡ Compared.Refused x → r ≡ Compared.Is o n → ⊥
+never-refused r x o n e f =
     let z : _≡_ {A = ℕ} 0 1 = cc in
     omega arith

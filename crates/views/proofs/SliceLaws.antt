@@ -27,7 +27,7 @@ pub record Holds (w : ℕ) (cs : List ℕ) (p : Lent) : Type 0 where
   pub accepted : first (viewTests w (length (p .span .bytes)) (p .offset) (p .len)) ≡ Done
   pub characters : chars w (p .span .bytes) (p .offset) (p .len) ≡ cs
 
-room-done : (w n o len : ℕ) → Room w n o len → first (viewTests w n o len) ≡ Done
+pub room-done : (w n o len : ℕ) → Room w n o len → first (viewTests w n o len) ≡ Done
 room-done w n o len r =
     first-next (ltb (2 ^ 28) n) TooLong (badView w n o len ∷ []) (le-ltb (2 ^ 28) n (r .small))
     ∙ first-next (ltb (n * per w) (o + len + trailing * per w)) BadView [] (le-ltb (n * per w) (o + len + trailing * per w) (r .fits))

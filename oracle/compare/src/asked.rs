@@ -174,9 +174,7 @@ fn both<const B: usize>(pair: Pair<B>)
 where
     Bits<B>: SupportedBits,
 {
-    pair.cmp_lcp();
-    pair.cmp();
-    pair.eq();
+    pair.compare();
     pair.find();
     pair.least();
 }

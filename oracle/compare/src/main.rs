@@ -17,12 +17,12 @@ use tally::Tally;
 fn main() -> ExitCode {
     let tally = Rc::new(RefCell::new(Tally::default()));
     let (mut ours, counted) = (Ours::default(), Rc::clone(&tally));
-    listen(move |line| {
-        if let Line::Case(numbers, answer) = line {
-            counted.borrow_mut().case(&mut ours, numbers, answer);
-        } else {
-            ours.fill(line);
+    listen(move |line| match line {
+        Line::Case(numbers, answer) => counted.borrow_mut().case(&mut ours, numbers, answer),
+        Line::Compared(numbers, answers) => {
+            counted.borrow_mut().compared(&mut ours, numbers, answers)
         }
+        _ => ours.fill(line),
     });
     field_failures::print();
     codes::print();

@@ -111,9 +111,7 @@ macro_rules! width {
                 let a = view(&ours.first, &numbers[2..]);
                 let b = view(&ours.second, &numbers[4..]);
                 match numbers[0] {
-                    40 => told(a.cmp_lcp(b).map(|(order, n)| [sign(order), n.0 as u64])),
-                    41 => told(a.eq(b).map(|equal| [equal.into()])),
-                    42 => told(a.cmp(b).map(|order| [sign(order)])),
+                    40 => told(a.compare(b).map(|(order, n)| [sign(order), n.0 as u64])),
                     43 => told(b.find(a).map(|found| {
                         let place = found.unwrap_or_default().0 as u64;
                         [found.is_some().into(), place]
@@ -224,7 +222,7 @@ impl Ours {
             Line::First(bytes) => self.first = bytes.to_vec(),
             Line::Second(bytes) => self.second = bytes.to_vec(),
             Line::Out(size, byte) => self.out = vec![byte; size],
-            Line::Case(..) => {}
+            Line::Case(..) | Line::Compared(..) => {}
         }
     }
 

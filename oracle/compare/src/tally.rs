@@ -18,6 +18,9 @@ pub enum With {
 
 const HEADS: [&str; 4] = ["original", "parts", "again", "rules"];
 
+/// How an answer prints order 0.
+const EQUAL: u64 = 1;
+
 /// The least number of questions to the original.
 const LEAST: usize = 1_000_000;
 
@@ -58,13 +61,11 @@ impl Tally {
 
     /// A case and its answer against ours; a stream is also stepped.
     pub fn case(&mut self, ours: &mut Ours, numbers: &[usize], answer: &[u64]) {
-        let size = ours.size() + numbers.iter().map(|&n| n.min(1 << 20)).sum::<usize>();
+        let size = size(ours, numbers);
         let before = ours.clone();
         let given = ours.answer(numbers);
         let refused = answer.first().is_some_and(|&n| n != 0);
-        let told = |given: &[u64]| {
-            format!("{before}\n  call {numbers:?}\n  expected {answer:?}\n  ours     {given:?}")
-        };
+        let told = |given: &[u64]| told(&before, numbers, answer, given);
         let with = with(numbers, refused, before.letters());
         let family = family(numbers[0]);
         self.compare(family, with, given == answer, size, || told(&given));
@@ -77,6 +78,21 @@ impl Tally {
             };
             let agree = stepped == answer[3..];
             self.compare(family, With::Again, agree, size, || told(&stepped));
+        }
+    }
+
+    /// The one answer of a comparison against the three of the original: `cmp_lcp`, `cmp`, and `==`, which holds exactly at order 0.
+    pub fn compared(&mut self, ours: &mut Ours, numbers: &[usize], answers: [&[u64]; 3]) {
+        let size = size(ours, numbers);
+        let given = ours.answer(numbers);
+        let equal = given[..2] == [0, EQUAL];
+        let all = [&given[..], &given[..2], &[given[0], equal.into()]];
+        let names = ["order, cmp_lcp", "order, cmp", "order, =="];
+        for ((name, given), answer) in names.into_iter().zip(all).zip(answers) {
+            let with = with(numbers, answer[0] != 0, 0);
+            self.compare(name, with, given == answer, size, || {
+                told(ours, numbers, answer, given)
+            });
         }
     }
 
@@ -118,6 +134,15 @@ impl Tally {
     }
 }
 
+/// How much a case is given.
+fn size(ours: &Ours, numbers: &[usize]) -> usize {
+    ours.size() + numbers.iter().map(|&n| n.min(1 << 20)).sum::<usize>()
+}
+
+fn told(before: &Ours, numbers: &[usize], answer: &[u64], given: &[u64]) -> String {
+    format!("{before}\n  call {numbers:?}\n  expected {answer:?}\n  ours     {given:?}")
+}
+
 /// What a case's answer is taken from, as the heads of `oracle::cases` say.
 fn with(numbers: &[usize], refused: bool, letters: usize) -> With {
     match numbers[0] {
@@ -145,7 +170,6 @@ fn family(call: usize) -> &'static str {
         34..=37 => "views, words",
         38 => "reverse complement",
         39 => "unpacking",
-        40..=42 => "order",
         43 => "find (added)",
         44 => "least (added)",
         50 => "stores, clear",

@@ -19,6 +19,8 @@ pub enum Line<'a> {
     Out(usize, u8),
     /// The numbers of a case, and of its answer.
     Case(&'a [usize], &'a [u64]),
+    /// The numbers of a comparison, and what `cmp_lcp`, `cmp` and `==` answer; the first alone is printed.
+    Compared(&'a [usize], [&'a [u64]; 3]),
 }
 
 type Listener = Box<dyn FnMut(Line)>;
@@ -47,13 +49,21 @@ fn print(line: Line) {
             assert!(size <= MOST, "{size}");
             println!("3 {size} {byte}");
         }
-        Line::Case(numbers, answer) => println!("{} = {}", spaced(numbers), spaced(answer)),
+        Line::Case(numbers, answer) | Line::Compared(numbers, [answer, ..]) => {
+            println!("{} = {}", spaced(numbers), spaced(answer))
+        }
     }
 }
 
 pub fn case(numbers: &[usize], answer: &[u64]) {
     assert!(numbers.iter().all(|&n| n <= HUGE), "{numbers:?}");
     tell(Line::Case(numbers, answer));
+}
+
+/// A comparison, and the three answers of the original.
+pub fn compared(numbers: &[usize], answers: [&[u64]; 3]) {
+    assert!(numbers.iter().all(|&n| n <= HUGE), "{numbers:?}");
+    tell(Line::Compared(numbers, answers));
 }
 
 /// Fills the first buffer.

@@ -1,8 +1,8 @@
-//! Calls on two views, the first over the first buffer, the second over the second. `cmp_lcp`, `cmp` and `==` are the
-//! original's, asserted against the characters. Find (added) is the least place where the original's `==` holds of a
+//! Calls on two views, the first over the first buffer, the second over the second. Comparing is what the original's
+//! `cmp_lcp`, `cmp` and `==` say, asserted against the characters. Find (added) is the least place where the original's `==` holds of a
 //! slice; least (added) is the normalised part of the view that the original's `cmp` puts first.
 
-use super::lines::{case, with_bytes};
+use super::lines::{case, compared, with_bytes};
 use super::original::view;
 use super::plain::{chars, common, place};
 use super::refusals::{Test, answer, bad_view, number};
@@ -39,34 +39,33 @@ where
         [call, B, ao, al, bo, bl]
     }
 
-    /// The order and the count of equal leading characters, after everything that tells them was found to agree.
-    fn compared(&self) -> (Ordering, usize) {
+    /// What the original's `cmp_lcp`, `cmp` and `==` say, each asked for itself.
+    fn compared(&self) -> ((Ordering, usize), Ordering, bool) {
         let ([a, b], [xs, ys]) = (self.views(), self.chars());
         let (order, count) = a.cmp_lcp(&b);
         assert_eq!(count, common(&xs, &ys));
         assert_eq!(order, xs.cmp(&ys));
         assert_eq!(order, a.iter_bp().cmp(b.iter_bp()));
-        assert_eq!(order, a.cmp(&b));
-        assert_eq!(order.is_eq(), a == b);
-        (order, count)
+        let (cmp, equal) = (a.cmp(&b), a == b);
+        assert_eq!(cmp, xs.cmp(&ys));
+        assert_eq!(equal, xs == ys);
+        ((order, count), cmp, equal)
     }
 
-    pub fn cmp_lcp(&self) {
-        let answer = answer(&self.tests(), || {
-            let (order, count) = self.compared();
-            [sign(order), count as u64]
-        });
-        case(&self.numbers(40), &answer);
-    }
-
-    pub fn eq(&self) {
-        let answer = answer(&self.tests(), || [self.compared().0.is_eq()]);
-        case(&self.numbers(41), &answer);
-    }
-
-    pub fn cmp(&self) {
-        let answer = answer(&self.tests(), || [sign(self.compared().0)]);
-        case(&self.numbers(42), &answer);
+    /// One question, and the original's three answers.
+    pub fn compare(&self) {
+        let answers = match number(&self.tests()) {
+            0 => {
+                let ((order, count), cmp, equal) = self.compared();
+                [
+                    vec![0, sign(order), count as u64],
+                    vec![0, sign(cmp)],
+                    vec![0, equal.into()],
+                ]
+            }
+            refusal => [vec![refusal, 0, 0], vec![refusal, 0], vec![refusal, 0]],
+        };
+        compared(&self.numbers(40), answers.each_ref().map(Vec::as_slice));
     }
 
     /// The pattern is the first view.
@@ -86,7 +85,7 @@ where
         let answer = match number(&self.tests()) {
             0 => {
                 let [a, b] = self.views();
-                let least = if self.compared().0.is_gt() { b } else { a };
+                let least = if self.compared().1.is_gt() { b } else { a };
                 let (bytes, offset, len) = inside::parts(&least.normalize());
                 with_bytes(&[0, offset as u64, len as u64], bytes)
             }

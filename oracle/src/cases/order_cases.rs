@@ -48,10 +48,8 @@ where
                         first: (&buffer, ao, al),
                         second: (&moved, bo, bl),
                     };
-                    pair.cmp_lcp();
-                    pair.eq();
+                    pair.compare();
                     if differs.is_none() && al != bl {
-                        pair.cmp();
                         pair.least();
                     }
                 }
@@ -87,9 +85,7 @@ where
                 first: (&buffer, ao, len),
                 second: (&other, bo, len),
             };
-            pair.cmp_lcp();
-            pair.cmp();
-            pair.eq();
+            pair.compare();
             pair.least();
         }
     }
@@ -188,9 +184,7 @@ fn every<const B: usize>(pair: Pair<B>)
 where
     Bits<B>: SupportedBits,
 {
-    pair.cmp_lcp();
-    pair.eq();
-    pair.cmp();
+    pair.compare();
     pair.find();
     pair.least();
 }

@@ -5,10 +5,10 @@ ghost use mathlib.Core.Bool.{Bool};
 ghost use mathlib.Core.Path.{_≡_};
 ghost use Rattle.given.specs.Face.{said, Part};
 ghost use Rattle.face.specs.Parts.{leastPart};
-ghost use Rattle.order.specs.Order.{compared, ordered, equalled, found};
+ghost use Rattle.order.specs.Order.{compared, found};
 
 #[no_mangle]
-pub extern "C" fn tsiv_flags_cmp_lcp(
+pub extern "C" fn tsiv_flags_compare(
     a: &[u8],
     ao: usize,
     al: usize,
@@ -20,37 +20,7 @@ pub extern "C" fn tsiv_flags_cmp_lcp(
 ) -> u32
     ensures { λ r. ⌜ said r (now (order .exit), now (common .exit)) ≡ compared 1 (now (a .entry)) ao al (now (b .entry)) bo bl ⌝ }
 {
-    pair::cmp_lcp(1, a, ao, al, b, bo, bl, order, common)
-}
-
-#[no_mangle]
-pub extern "C" fn tsiv_flags_cmp(
-    a: &[u8],
-    ao: usize,
-    al: usize,
-    b: &[u8],
-    bo: usize,
-    bl: usize,
-    order: &mut i32,
-) -> u32
-    ensures { λ r. ⌜ said r (now (order .exit)) ≡ ordered 1 (now (a .entry)) ao al (now (b .entry)) bo bl ⌝ }
-{
-    pair::cmp(1, a, ao, al, b, bo, bl, order)
-}
-
-#[no_mangle]
-pub extern "C" fn tsiv_flags_eq(
-    a: &[u8],
-    ao: usize,
-    al: usize,
-    b: &[u8],
-    bo: usize,
-    bl: usize,
-    equal: &mut bool,
-) -> u32
-    ensures { λ r. ⌜ said r (now (equal .exit)) ≡ equalled 1 (now (a .entry)) ao al (now (b .entry)) bo bl ⌝ }
-{
-    pair::eq(1, a, ao, al, b, bo, bl, equal)
+    pair::compare(1, a, ao, al, b, bo, bl, order, common)
 }
 
 #[no_mangle]

@@ -19,9 +19,7 @@ pub fn run<'a>(call: u64, line: &[u64; 512], a: &'a [u8], b: &'a [u8]) {
 
 fn of_bases<'a>(call: u64, a: &'a [u8], ao: Chars, al: Chars, b: &'a [u8], bo: Chars, bl: Chars) {
     match call {
-        40 => print::compared(bases::cmp_lcp(a, ao, al, b, bo, bl)),
-        41 => print::equality(bases::eq(a, ao, al, b, bo, bl)),
-        42 => print::ordered(bases::cmp(a, ao, al, b, bo, bl)),
+        40 => print::compared(bases::compare(a, ao, al, b, bo, bl)),
         43 => print::found(bases::find(b, bo, bl, a, ao, al)),
         44 => {
             print::least(bases::least_numbers(a, ao, al, b, bo, bl));
@@ -33,9 +31,7 @@ fn of_bases<'a>(call: u64, a: &'a [u8], ao: Chars, al: Chars, b: &'a [u8], bo: C
 
 fn of_flags<'a>(call: u64, a: &'a [u8], ao: Chars, al: Chars, b: &'a [u8], bo: Chars, bl: Chars) {
     match call {
-        40 => print::compared(flags::cmp_lcp(a, ao, al, b, bo, bl)),
-        41 => print::equality(flags::eq(a, ao, al, b, bo, bl)),
-        42 => print::ordered(flags::cmp(a, ao, al, b, bo, bl)),
+        40 => print::compared(flags::compare(a, ao, al, b, bo, bl)),
         43 => print::found(flags::find(b, bo, bl, a, ao, al)),
         44 => {
             print::least(flags::least_numbers(a, ao, al, b, bo, bl));

@@ -7,11 +7,9 @@ use codes::words::Word;
 use codes::words::Word128;
 use libc::STDOUT_FILENO;
 use order::answers::Compared;
-use order::answers::Equality;
 use order::answers::Found;
 use order::answers::Least;
 use order::answers::Order;
-use order::answers::Ordered;
 use stores::answers::Kept;
 use stores::answers::Pushed;
 use streams::answers::Filled;
@@ -119,26 +117,6 @@ pub(crate) fn compared(c: Compared) {
             count(n);
         }
         Compared::Refused(r) => refused_two(r),
-    }
-}
-
-pub(crate) fn ordered(c: Ordered) {
-    match c {
-        Ordered::Is(o) => {
-            byte(0);
-            order(o);
-        }
-        Ordered::Refused(r) => refused_one(r),
-    }
-}
-
-pub(crate) fn equality(e: Equality) {
-    match e {
-        Equality::Is(same) => {
-            byte(0);
-            byte(same as u8);
-        }
-        Equality::Refused(r) => refused_one(r),
     }
 }
 

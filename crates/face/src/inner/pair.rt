@@ -6,9 +6,9 @@ use order::inner::find::find_views;
 ghost use mathlib.Core.Path.{_≡_};
 ghost use Rattle.codes.specs.Codes.{IsWidth};
 ghost use Rattle.given.specs.Face.{said};
-ghost use Rattle.order.specs.Order.{compared, ordered, equalled, found};
+ghost use Rattle.order.specs.Order.{compared, found};
 
-pub fn cmp_lcp(
+pub fn compare(
     w: usize,
     a: &[u8],
     ao: usize,
@@ -23,7 +23,7 @@ pub fn cmp_lcp(
     ensures { λ r. ⌜ said r (now (order .exit), now (common .exit)) ≡ compared w (now (a .entry)) ao al (now (b .entry)) bo bl ⌝ }
 {
     give::compared(
-        compare::cmp_lcp(
+        compare::compare(
             w,
             a,
             Chars::new(ao),
@@ -34,60 +34,6 @@ pub fn cmp_lcp(
         ),
         order,
         common,
-    )
-}
-
-pub fn cmp(
-    w: usize,
-    a: &[u8],
-    ao: usize,
-    al: usize,
-    b: &[u8],
-    bo: usize,
-    bl: usize,
-    order: &mut i32,
-) -> u32
-    requires { ⌜ IsWidth w ⌝ }
-    ensures { λ r. ⌜ said r (now (order .exit)) ≡ ordered w (now (a .entry)) ao al (now (b .entry)) bo bl ⌝ }
-{
-    give::ordered(
-        compare::cmp(
-            w,
-            a,
-            Chars::new(ao),
-            Chars::new(al),
-            b,
-            Chars::new(bo),
-            Chars::new(bl),
-        ),
-        order,
-    )
-}
-
-pub fn eq(
-    w: usize,
-    a: &[u8],
-    ao: usize,
-    al: usize,
-    b: &[u8],
-    bo: usize,
-    bl: usize,
-    equal: &mut bool,
-) -> u32
-    requires { ⌜ IsWidth w ⌝ }
-    ensures { λ r. ⌜ said r (now (equal .exit)) ≡ equalled w (now (a .entry)) ao al (now (b .entry)) bo bl ⌝ }
-{
-    give::equality(
-        compare::eq(
-            w,
-            a,
-            Chars::new(ao),
-            Chars::new(al),
-            b,
-            Chars::new(bo),
-            Chars::new(bl),
-        ),
-        equal,
     )
 }
 

@@ -8,10 +8,8 @@ use counts::answers::Count;
 use forms::answers::Restored;
 use forms::answers::Wrote;
 use order::answers::Compared;
-use order::answers::Equality;
 use order::answers::Found;
 use order::answers::Order;
-use order::answers::Ordered;
 use stores::answers::Kept;
 use stores::answers::Pushed;
 use streams::answers::Filled;
@@ -22,7 +20,7 @@ ghost use Rattle.codes.specs.Refusals.{answer, number, numberOf};
 ghost use Rattle.counts.specs.Answers.{countSays};
 ghost use Rattle.given.specs.Face.{said, noPart};
 ghost use Rattle.forms.specs.Answers.{wroteSays, restoredSays};
-ghost use Rattle.order.specs.Answers.{comparedSays, orderedSays, equalitySays, foundSays};
+ghost use Rattle.order.specs.Answers.{comparedSays, foundSays};
 ghost use Rattle.order.specs.Order.{orderNumber};
 ghost use Rattle.stores.specs.Answers.{pushedSays, keptSays};
 ghost use Rattle.streams.specs.Answers.{shapeSays, filledSays};
@@ -108,36 +106,6 @@ pub fn compared(answer: Compared, order: &mut i32, common: &mut usize) -> u32
         Compared::Refused(refusal) => {
             *order = 0;
             *common = 0;
-            refusal_no(refusal)
-        }
-    }
-}
-
-pub fn ordered(answer: Ordered, order: &mut i32) -> u32
-    ensures { λ r. ⌜ said r (now (order .exit)) ≡ orderedSays answer ⌝ }
-{
-    match answer {
-        Ordered::Is(way) => {
-            *order = order_no(way);
-            0
-        }
-        Ordered::Refused(refusal) => {
-            *order = 0;
-            refusal_no(refusal)
-        }
-    }
-}
-
-pub fn equality(answer: Equality, equal: &mut bool) -> u32
-    ensures { λ r. ⌜ said r (now (equal .exit)) ≡ equalitySays answer ⌝ }
-{
-    match answer {
-        Equality::Is(same) => {
-            *equal = same;
-            0
-        }
-        Equality::Refused(refusal) => {
-            *equal = false;
             refusal_no(refusal)
         }
     }

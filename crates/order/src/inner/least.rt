@@ -1,8 +1,8 @@
 // Of two views the one that comes first, at a tie the first, handed back normalised. The views are compared once.
+use crate::answers::Compared;
 use crate::answers::Least;
 use crate::answers::Order;
-use crate::inner::compare::order_of;
-use crate::inner::pairs::pair_outcome;
+use crate::inner::compare::compare;
 use codes::inner::counts::within_byte;
 use codes::refusals::Outcome;
 use codes::units::Chars;
@@ -40,18 +40,15 @@ pub fn choose(w: usize, a: &[u8], ao: Chars, al: Chars, b: &[u8], bo: Chars, bl:
     requires { ⌜ IsWidth w ⌝ }
     ensures { λ r. ⌜ r ≡ choice w (now (a .entry)) (ao .0) (al .0) (now (b .entry)) (bo .0) (bl .0) ⌝ }
 {
-    match pair_outcome(w, a, ao, al, b, bo, bl) {
-        Outcome::Refused(refusal) => Choice {
+    match compare(w, a, ao, al, b, bo, bl) {
+        Compared::Refused(refusal) => Choice {
             second: false,
             outcome: Outcome::Refused(refusal),
         },
-        Outcome::Done => {
-            let order = order_of(w, a, ao, al, b, bo, bl);
-            Choice {
-                second: comes_second(order),
-                outcome: Outcome::Done,
-            }
-        }
+        Compared::Is(order, _) => Choice {
+            second: comes_second(order),
+            outcome: Outcome::Done,
+        },
     }
 }
 

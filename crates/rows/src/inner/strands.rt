@@ -1,8 +1,8 @@
 // The strand of a record: its bases against their reverse complement.
 use codes::units::Chars;
+use order::answers::Compared;
 use order::answers::Order;
-use order::answers::Ordered;
-use order::bases::cmp;
+use order::bases::compare;
 use writes::bases::to_revcomp;
 ghost use mathlib.Core.Path.{_≡_};
 ghost use Prim.Native.Nat.{_≤_};
@@ -22,12 +22,12 @@ pub fn strand(bases: &[u8; BASES], count: usize, other: &mut [u8; BASES]) -> u8
     let none = Chars::new(0);
     let len = Chars::new(count);
     to_revcomp(bases, none, len, other);
-    match cmp(bases, none, len, other, none, len) {
-        Ordered::Is(order) => match order {
+    match compare(bases, none, len, other, none, len) {
+        Compared::Is(order, _) => match order {
             Order::Less => b'<',
             Order::Equal => b'=',
             Order::Greater => b'>',
         },
-        Ordered::Refused(_) => b'=',
+        Compared::Refused(_) => b'=',
     }
 }

@@ -1,22 +1,19 @@
--- By the order of the two, where neither is refused. Assumes nothing.
-use mathlib.Core.Path.{refl, sym, ap, _∙_}
-use Rattle.order.specs.Order.{isSecond}
-use Rattle.order.proofs.LeastLaws.{choice-is}
+-- By what comparing the two answers. Assumes nothing.
+use mathlib.Core.Path.{sym, ap, _∙_}
+use Rattle.codes.specs.declared.refusals.Outcome.the-variants.{Done}
+use Rattle.order.proofs.LeastLaws.{choiceBy, choiceOf, choice-compared}
 use borrow.Author.Needs.{needs}
 use Rattle.order.proofs.inner.least.choose.Statement.{statement}
 use Rattle.order.proofs.inner.least.choose.Tie as tie
 
-pair-outcome-requires : tie.Need-pair-outcome-requires
-pair-outcome-requires c κs = search needs
+compare-requires : tie.Need-compare-requires
+compare-requires c κs = search needs
 
 enum-known-refusal : tie.Need-enum-known-refusal
 enum-known-refusal c = search needs
 
-enum-told : tie.Need-enum-told
-enum-told c = search needs
-
-order-of-requires : tie.Need-order-of-requires
-order-of-requires c κs = (c .before .before .before .before .before .pre, sym (c .before .before .pair-outcome .ensures) ∙ c .enum-told .given .1)
+enum-known-order : tie.Need-enum-known-order
+enum-known-order c = search needs
 
 comes-second-requires : tie.Need-comes-second-requires
 comes-second-requires c κs = search needs
@@ -25,23 +22,24 @@ returns : tie.Need-returns
 returns c =
     let p = c .before .before .before in
     let a = p .before .before .before .args in
-    choice-is (a .w) (a .a .now) (a .ao .0) (a .al .0) (a .b .now) (a .bo .0) (a .bl .0) _ _ (sym (c .before .refusal .given .1) ∙ p .pair-outcome .ensures) refl
+    ap choiceOf (sym (c .before .refusal .given .1))
+    ∙ choice-compared (a .w) (a .a .now) (a .ao .0) (a .al .0) (a .b .now) (a .bo .0) (a .bl .0) (p .compare .result) (p .compare .ensures)
 
 returns-2 : tie.Need-returns-2
 returns-2 c =
     let p = c .before .before .before .before in
     let a = p .before .before .before .args in
-    choice-is (a .w) (a .a .now) (a .ao .0) (a .al .0) (a .b .now) (a .bo .0) (a .bl .0) _ _ (sym (c .before .before .enum-told .given .1) ∙ p .pair-outcome .ensures)
-    (c .comes-second .ensures ∙ ap isSecond (c .before .order-of .ensures))
+    ap (choiceBy Done) (c .comes-second .ensures)
+    ∙ ap choiceOf (sym (c .before .before .order .given .1))
+    ∙ choice-compared (a .w) (a .a .now) (a .ao .0) (a .al .0) (a .b .now) (a .bo .0) (a .bl .0) (p .compare .result) (p .compare .ensures)
 
 pub choose-spec : {M : Type 1} → statement M
 choose-spec =
     tie.close
     (tie.spec
-    pair-outcome-requires
+    compare-requires
     enum-known-refusal
-    enum-told
-    order-of-requires
+    enum-known-order
     comes-second-requires
     returns
     returns-2)

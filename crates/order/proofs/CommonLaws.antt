@@ -42,6 +42,16 @@ unfolding trailingZeros
 set-at-zeros zero n l = absurd (omega arith)
 set-at-zeros (suc k) n l = set-step (n % 2) n (trailingZeros k (n / 2)) k refl (set-at-zeros k (n / 2)) l
 
+-- where 56 bits are not all 0, the lowest set bit is one of them
+pub differ-low : (n : ℕ) → (n % 2 ^ 56 ≡ 0 → ⊥) → trailingZeros 64 n < 56
+differ-low n z = below-or (trailingZeros 64 n) 56 (λ l. l) (λ l. absurd (z (sym (mod-low n 56 (trailingZeros 64 n) l) ∙ ap (λ (k : ℕ). k % 2 ^ 56) (zeros-below 64 n))))
+
+-- and so is the whole character that it stands in
+pub char-within : {w : ℕ} → IsWidth w → (m : ℕ) → m < 56 → w * (m / w) + w ≤ 56
+char-within {w} W m small =
+    let l : m / w < 56 / w = lt-of-mul-lt-mul-left w (lt-of-le-of-lt (mul-div-le m w) (subst (λ (k : ℕ). m < k) (sym (whole W 7)) small)) in
+    le-trans (subst (λ (k : ℕ). k ≤ w * (56 / w)) (mul-suc w (m / w)) (mul-le-mul-left w l)) (mul-div-le 56 w)
+
 xor-same : (a b : ℕ) → bitXor a b ≡ 0 → a ≡ b
 xor-same a b e = omega (arith, xor-add-and a b, and-le-l a b, and-le-r a b)
 
@@ -90,7 +100,7 @@ module _ {w : ℕ} (W : IsWidth w) where
         omega (arith, f, one)
 
 -- the common length of two views, by the places of their characters
-common-chars : (w : ℕ) (s : List ℕ) (o al : ℕ) (t : List ℕ) (o′ bl r : ℕ) → r ≤ al → r ≤ bl → ((j : ℕ) → j < r → charAt w s (o + j) ≡ charAt w t (o′ + j))
+pub common-chars : (w : ℕ) (s : List ℕ) (o al : ℕ) (t : List ℕ) (o′ bl r : ℕ) → r ≤ al → r ≤ bl → ((j : ℕ) → j < r → charAt w s (o + j) ≡ charAt w t (o′ + j))
     → (r < al → r < bl → charAt w s (o + r) ≡ charAt w t (o′ + r) → ⊥) → r ≡ common (chars w s o al) (chars w t o′ bl)
 common-chars w s o al t o′ bl r h l e d =
     common-is (chars w s o al) (chars w t o′ bl) r (rw (length-chars w s o al) h) (rw (length-chars w t o′ bl) l)
@@ -119,12 +129,12 @@ module _ {w : ℕ} (W : IsWidth w) (s t : List ℕ) (bs : Below 8 s) (bt : Below
       ap (charAt w s) (sym (add-assoc o i (j - i) ∙ ap (λ (n : ℕ). o + n) d)) ∙ e ∙ ap (charAt w t) (add-assoc o′ i (j - i) ∙ ap (λ (n : ℕ). o′ + n) d))
 
   -- 56 equal bits are a turn's equal characters
-  lcp-turn : bitXor x y % 2 ^ 56 ≡ 0 → SameBelow w s o t o′ (i + 56 / w)
-  lcp-turn z = same-more 56 (56 / w) (omega arith) z (mul-div-le 56 w)
+  common-turn : bitXor x y % 2 ^ 56 ≡ 0 → SameBelow w s o t o′ (i + 56 / w)
+  common-turn z = same-more 56 (56 / w) (omega arith) z (mul-div-le 56 w)
 
   -- otherwise the lowest differing bit stands in the first character that differs
-  lcp-found : (al bl n : ℕ) → n ≡ min al bl → (bitXor x y % 2 ^ 56 ≡ 0 → ⊥) → min (i + trailingZeros 64 (bitXor x y) / w) n ≡ common (chars w s o al) (chars w t o′ bl)
-  lcp-found al bl n en z =
+  common-found : (al bl n : ℕ) → n ≡ min al bl → (bitXor x y % 2 ^ 56 ≡ 0 → ⊥) → min (i + trailingZeros 64 (bitXor x y) / w) n ≡ common (chars w s o al) (chars w t o′ bl)
+  common-found al bl n en z =
       below-or (i + m / w) n
       (λ l. min-eq-left (le-of-lt l) ∙ common-chars w s o al t o′ bl (i + m / w) (omega (arith, min-le-left al bl)) (omega (arith, min-le-right al bl)) same (λ _ _ e. other e))
       (λ l. min-eq-right l ∙ same-all w s o al t o′ bl (i + m / w) n en l same)
@@ -136,7 +146,7 @@ module _ {w : ℕ} (W : IsWidth w) (s t : List ℕ) (bs : Below 8 s) (bt : Below
       zeros = zeros-below 64 (bitXor x y)
 
       small : m < 56
-      small = below-or m 56 (λ l. l) (λ l. absurd (z (sym (mod-low (bitXor x y) 56 m l) ∙ ap (λ (k : ℕ). k % 2 ^ 56) zeros)))
+      small = differ-low (bitXor x y) z
 
       lo : w * (m / w) ≤ m
       lo = mul-div-le m w
@@ -147,14 +157,9 @@ module _ {w : ℕ} (W : IsWidth w) (s t : List ℕ) (bs : Below 8 s) (bt : Below
       hi : m < w * (m / w) + w
       hi = subst (λ (k : ℕ). m < k + w) (mul-comm (m / w) w) (lt-div-mul-add (width-pos W))
 
-      within : w * (m / w) + w ≤ 56
-      within =
-          let l : m / w < 56 / w = lt-of-mul-lt-mul-left w (lt-of-le-of-lt lo (subst (λ (k : ℕ). m < k) (sym (whole W 7)) small)) in
-          le-trans (subst (λ (k : ℕ). k ≤ w * (56 / w)) (mul-suc w (m / w)) (mul-le-mul-left w l)) (mul-div-le 56 w)
-
       other : charAt w s (o + (i + m / w)) ≡ charAt w t (o′ + (i + m / w)) → ⊥
       other e =
-          differ-at W s t bs bt (o + i) (o′ + i) p q x y hx hy m (m / w) (set-at-zeros 64 (bitXor x y) (lt-trans small (lit< tt))) lo hi within
+          differ-at W s t bs bt (o + i) (o′ + i) p q x y hx hy m (m / w) (set-at-zeros 64 (bitXor x y) (lt-trans small (lit< tt))) lo hi (char-within W m small)
           (ap (charAt w s) (add-assoc o i (m / w)) ∙ e ∙ ap (charAt w t) (sym (add-assoc o′ i (m / w))))
 
 -- the place of the next turn
@@ -209,9 +214,20 @@ module _ {w : ℕ} {s : List ℕ} {o al : ℕ} {t : List ℕ} {o′ bl n : ℕ} 
       passed-turn z = record {
         left = place-on (v .width) o i p (h .left);
         right = place-on (v .width) o′ i q (h .right);
-        same = lcp-turn (v .width) s t (v .bytes .0) (v .bytes .1) o o′ i p q x y left-peeked right-peeked (h .same) z;
+        same = common-turn (v .width) s t (v .bytes .0) (v .bytes .1) o o′ i p q x y left-peeked right-peeked (h .same) z;
       }
 
       -- 56 bits that differ show where
       pub passed-found : (bitXor x y % 2 ^ 56 ≡ 0 → ⊥) → min (i + trailingZeros 64 (bitXor x y) / w) n ≡ common (chars w s o al) (chars w t o′ bl)
-      passed-found z = lcp-found (v .width) s t (v .bytes .0) (v .bytes .1) o o′ i p q x y left-peeked right-peeked (h .same) al bl n (v .least) z
+      passed-found z = common-found (v .width) s t (v .bytes .0) (v .bytes .1) o o′ i p q x y left-peeked right-peeked (h .same) al bl n (v .least) z
+
+      -- and the character of each view there
+      pub passed-chars : (bitXor x y % 2 ^ 56 ≡ 0 → ⊥)
+          → let k : ℕ = trailingZeros 64 (bitXor x y) / w in
+          (x / 2 ^ (w * k) % 2 ^ w ≡ charAt w s (o + (i + k))) × (y / 2 ^ (w * k) % 2 ^ w ≡ charAt w t (o′ + (i + k)))
+      passed-chars z =
+          let k : ℕ = trailingZeros 64 (bitXor x y) / w in
+          let h = char-within (v .width) (trailingZeros 64 (bitXor x y)) (differ-low (bitXor x y) z) in (
+            sym (peeked-char (v .width) s (v .bytes .0) (o + i) p x left-peeked k h) ∙ ap (charAt w s) (add-assoc o i k),
+            sym (peeked-char (v .width) t (v .bytes .1) (o′ + i) q y right-peeked k h) ∙ ap (charAt w t) (add-assoc o′ i k),
+          )
