@@ -9,14 +9,15 @@ use codes::units::Chars;
 use codes::units::TRAILING;
 use fields::inner::loads::bits_at;
 use fields::inner::parts::view_outcome;
-ghost use mathlib.Core.List.{_++_};
 ghost use mathlib.Core.Path.{_≡_};
 ghost use Prim.Native.Nat.{_+_, _*_, _/_, _%_, _^_, _≤_, _<_};
-ghost use lib.ListN.{length, drop};
+ghost use lib.ListN.{length};
 ghost use Rattle.codes.specs.Codes.{IsWidth, complement, up, trailing};
+ghost use Rattle.codes.specs.Made.{Made};
 ghost use Rattle.codes.specs.Refusals.{first, ifDone, viewTests};
-ghost use Rattle.codes.specs.Words.{word, charsOf, flip};
+ghost use Rattle.codes.specs.Words.{word, flip};
 ghost use Rattle.codes.specs.declared.refusals.Outcome.the-variants.{Done};
+ghost use Rattle.writes.specs.Flips.{flippedByte};
 ghost use Rattle.writes.specs.Writes.{flipOutcome, flippedOver};
 
 // The next word of output, where `left` bits from bit p on are still to be reversed.
@@ -41,8 +42,7 @@ fn flip_words(w: usize, bytes: &[u8], p: usize, bits: usize, out: &mut [u8])
     requires { ⌜ w ≤ 2 ⌝ }
     requires { ⌜ w * (bits / w) ≡ bits ⌝ }
     requires { ⌜ (p + bits < 2 ^ 32) × (p + bits + 384 ≤ 8 * length (now bytes)) × (bits + 64 ≤ 8 * length (now out)) ⌝ }
-    ensures { λ _. ⌜ now (out .exit) ≡ charsOf 8 (8 * ((bits + 63) / 64)) (flip w (complement w) (bits / w) (word 8 (now (bytes .entry)) / 2 ^ p))
-        ++ drop (8 * ((bits + 63) / 64)) (now (out .entry)) ⌝ }
+    ensures { λ _. ⌜ Made (flippedByte w (word 8 (now (bytes .entry)) / 2 ^ p) bits) 0 (8 * ((bits + 63) / 64)) (now (out .entry)) (now (out .exit)) ⌝ }
 {
     let mut at: usize = 0;
     while 8 * at < bits {

@@ -1,7 +1,11 @@
 -- A whole word's flip, or the last one shifted down. Assumes nothing.
+use mathlib.Core.Path.{_≡_, sym, ap, _∙_}
+use Prim.Native.Nat.{ℕ, _-_, _/_, _%_, _^_}
+use native.Mathlib.Nat.{div-one}
 use native.Mathlib.Omega.{arith}
+use lib.Pow.{shr-shr}
 use Rattle.codes.specs.Words.{word}
-use Rattle.writes.proofs.ReverseLaws.{flip-last, flip-step-word}
+use Rattle.writes.proofs.ReverseLaws.{few, enough}
 use borrow.Author.Needs.{needs}
 use Rattle.writes.proofs.inner.reverse.flip_next.Statement.{statement}
 use Rattle.writes.proofs.inner.reverse.flip_next.Tie as tie
@@ -22,7 +26,10 @@ returns : tie.Need-returns
 returns c =
     let s = c .before .before .before .before in
     let a = s .args in
-    flip-last (s .pre .0) (word 8 (a .bytes .now)) (a .p) (a .left) _ _ (s .pre .1 .1 .0 .1) (c .flip-word .ensures) (omega arith) (c .before .bits-at .ensures)
+    let v = word 8 (a .bytes .now) / 2 ^ a .p in
+    let none : a .left - 64 ≡ 0 = omega arith in
+    let loaded = c .before .bits-at .ensures ∙ sym (ap (λ (n : ℕ). v / 2 ^ n % 2 ^ 64) none ∙ ap (λ (y : ℕ). y % 2 ^ 64) (div-one v)) in
+    few (s .pre .0) 8 v (a .left) _ _ (s .pre .1 .1 .0 .1) (c .flip-word .ensures) loaded (omega arith)
 
 add-bits-at : tie.Need-add-bits-at
 add-bits-at c = search needs
@@ -37,7 +44,8 @@ returns-2 : tie.Need-returns-2
 returns-2 c =
     let s = c .before .before .before .before in
     let a = s .args in
-    flip-step-word (s .pre .0) (word 8 (a .bytes .now)) (a .p) (a .left) _ _ (s .pre .1 .1 .0 .1) (c .flip-word2 .ensures) (omega arith) (c .before .bits-at2 .ensures)
+    let loaded = c .before .bits-at2 .ensures ∙ ap (λ (n : ℕ). n % 2 ^ 64) (sym (shr-shr (word 8 (a .bytes .now)) (a .p) (a .left - 64))) in
+    enough (s .pre .0) 8 (word 8 (a .bytes .now) / 2 ^ a .p) (a .left) _ _ (s .pre .1 .1 .0 .1) (c .flip-word2 .ensures) loaded (omega arith)
 
 pub flip-next-spec : {M : Type 1} → statement M
 flip-next-spec =

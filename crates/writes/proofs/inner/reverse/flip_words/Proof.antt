@@ -1,27 +1,24 @@
--- The invariant: the first bytes of the reversed bits are written, and the others are as they were.
--- Assumes nothing.
-use mathlib.Core.List.{_++_}
-use mathlib.Core.Path.{_≡_, refl, ap, _∙_}
-use Prim.Native.Nat.{ℕ, _+_, _-_, _*_, _/_, _%_, _^_, _≤_, _<_}
+-- The invariant: a run of the reversed bytes, in whole words, and the others are as they were. Assumes nothing.
+use mathlib.Core.Path.{_≡_, refl, sym, ap, _∙_, subst}
+use Prim.Native.Nat.{ℕ, _+_, _-_, _*_, _/_, _%_, _^_, _<_}
 use native.Mathlib.Omega.{arith}
-use lib.ListN.{length, drop}
-use lib.Seq.{length-sets}
 use Rattle.codes.specs.Codes.{complement}
-use Rattle.codes.specs.Words.{word, charsOf, flip}
-use Rattle.writes.proofs.ReverseLaws.{rest-is, flip-turn}
+use Rattle.codes.specs.Made.{Made}
+use Rattle.codes.specs.Words.{word, flip}
+use Rattle.codes.proofs.MadeLaws.{made-none, made-to}
+use Rattle.writes.specs.Flips.{flippedByte}
+use Rattle.writes.proofs.ReverseLaws.{rest-is, flip-behind, word-turn}
 use Rattle.writes.proofs.inner.reverse.flip_words.Statement.{statement}
 use Rattle.writes.proofs.inner.reverse.flip_words.Tie as tie
 
 abbrev Inv-loop : tie.InvT-loop
-Inv-loop w bytes p bits out₀ at₀ out at =
-    (out ≡ charsOf 8 at (flip w (complement w) (bits / w) (word 8 bytes / 2 ^ p)) ++ drop at out₀) × (at % 8 ≡ 0) × (8 * at < bits + 64) × (length out ≡ length out₀)
+Inv-loop w bytes p bits out₀ at₀ out at = Made (flippedByte w (word 8 bytes / 2 ^ p) bits) 0 at out₀ out × (at % 8 ≡ 0) × (8 * at < bits + 64)
 
 abbrev μ-loop : tie.MeasureT-loop
 μ-loop w bytes p bits out₀ at₀ out at = bits - 8 * at
 
 loop-holds : tie.Need-loop-holds Inv-loop μ-loop
-unfolding charsOf
-loop-holds c = (refl, refl, omega arith, refl)
+loop-holds c = (made-none (omega arith), refl, omega arith)
 
 mul-loop : tie.Need-mul-loop Inv-loop μ-loop
 mul-loop c = record { fits = omega (arith, c .before .before .before .pre .1 .1 .1 .0) }
@@ -43,7 +40,7 @@ flip-next-requires c κs =
 store64-requires : tie.Need-store64-requires Inv-loop μ-loop
 store64-requires c κs =
     let l = c .before .before .before in
-    omega (arith, l .before .before .before .pre .1 .1 .1 .2, l .loop .inv .3)
+    omega (arith, l .before .before .before .pre .1 .1 .1 .2, l .loop .inv .0 .long)
 
 add-at : tie.Need-add-at Inv-loop μ-loop
 add-at c =
@@ -60,25 +57,16 @@ loop-again c =
     let l = o .before .before .loop in
     let s = o .before .before .before .before .before in
     let a = s .args in
-    let x = o .flip-next .result in
-    let room : l .at + 8 ≤ length (a .out .now) = omega (arith, s .pre .1 .1 .1 .2) in (
-      k .store64 .ensures
-          ∙ flip-turn (s .pre .0) (word 8 (a .bytes .now) / 2 ^ a .p) (a .bits) (l .at) (a .out .now) (l .out) x (s .pre .1 .1 .0) (omega arith) room (o .flip-next .ensures) (l .inv .0),
-      omega (arith, l .inv .1),
-      omega arith,
-      ap length (k .store64 .ensures) ∙ length-sets (l .out) (l .at) (charsOf 8 8 x) ∙ l .inv .3,
-    )
+    let v = word 8 (a .bytes .now) / 2 ^ a .p in
+    let next = o .flip-next .ensures ∙ ap (λ (n : ℕ). n % 2 ^ 64) (flip-behind (s .pre .0) v (a .bits) (l .at) (s .pre .1 .1 .0) (omega arith)) in
+    let turn = word-turn (flip (a .w) (complement (a .w)) (a .bits / a .w) v) (l .at) (o .flip-next .result) next (omega (arith, s .pre .1 .1 .1 .2)) (l .inv .0) in
+    (subst (Made (flippedByte (a .w) v (a .bits)) 0 (l .at + 8) (a .out .now)) (sym (k .store64 .ensures)) turn, omega (arith, l .inv .1), omega arith)
 
 same-length : tie.Need-same-length Inv-loop μ-loop
-same-length c = c .before .loop .inv .3
+same-length c = c .before .loop .inv .0 .long
 
 returns : tie.Need-returns Inv-loop μ-loop
-returns c =
-    let l = c .before in
-    let a = l .before .before .before .args in
-    let e : l .loop .at ≡ 8 * ((a .bits + 63) / 64) = omega (arith, l .loop .inv .1) in
-    l .loop .inv .0
-    ∙ ap (λ (k : ℕ). charsOf 8 k (flip (a .w) (complement (a .w)) (a .bits / a .w) (word 8 (a .bytes .now) / 2 ^ a .p)) ++ drop k (a .out .now)) e
+returns c = made-to (c .before .loop .inv .0) (omega (arith, c .before .loop .inv .1))
 
 pub flip-words-spec : {M : Type 1} → statement M
 flip-words-spec =

@@ -1,12 +1,9 @@
 -- The words of the reversed view, then the run of zeros over what the last word reached beyond. Assumes nothing.
-use mathlib.Core.List.{_++_}
-use mathlib.Core.Path.{ap, _∙_}
-use Prim.Native.Nat.{ℕ, _+_, _*_, _/_, _^_}
+use mathlib.Core.Path.{ap}
+use Prim.Native.Nat.{ℕ, _+_, _*_, _/_}
 use native.Mathlib.Nat.{mul-div-cancel-left}
 use native.Mathlib.Omega.{arith}
-use lib.ListN.{length, drop}
-use Rattle.codes.specs.Codes.{complement}
-use Rattle.codes.specs.Words.{word, charsOf, flip}
+use lib.ListN.{length}
 use Rattle.codes.proofs.PackedLaws.{up-bits}
 use Rattle.codes.proofs.TabLaws.{Below-of}
 use Rattle.codes.proofs.WidthLaws.{width-pos}
@@ -54,15 +51,11 @@ returns c =
     let b = f .before .before .before in
     let s = b .before in
     let a = s .args in
-    let m = 8 * ((a .w * a .len + 63) / 64) in
     let u = up-bits (s .pre .0) (a .len) in
     let p = s .pre .1 .1 .1 in
-    let bytes = Below-of 8 (a .bytes .now) (λ i. omega (arith, b .shared-slice-known .given i)) in
-    let e = mul-div-cancel-left (a .len) (width-pos (s .pre .0)) in
-    flipped-written (s .pre .0) (a .bytes .now) bytes (a .o) (a .len) (a .used) m (a .out .now) (f .flip-words .last .1 .1 .1 .1 .0) (k .zero-run .last .0)
+    flipped-written (s .pre .0) (a .bytes .now) (Below-of 8 (a .bytes .now) (λ i. omega (arith, b .shared-slice-known .given i))) (a .o) (a .len) (a .used) (8 * ((a .w * a .len + 63) / 64))
     (p .0) (omega (arith, u .0, u .1, p .0)) (omega (arith, u .0, u .1, p .0)) (p .1)
-    (f .flip-words .ensures ∙ ap (λ (n : ℕ). charsOf 8 m (flip (a .w) (complement (a .w)) n (word 8 (a .bytes .now) / 2 ^ (a .w * a .o))) ++ drop m (a .out .now)) e)
-    (k .zero-run .ensures)
+    (f .flip-words .ensures) (k .zero-run .ensures)
 
 pub write-flipped-spec : {M : Type 1} → statement M
 write-flipped-spec =
