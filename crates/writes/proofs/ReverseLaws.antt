@@ -3,11 +3,11 @@
 use mathlib.Core.List.{List, _++_, map}
 use mathlib.Core.Path.{_≡_, sym, ap, ap₂, _∙_, subst, subst₂}
 use Prim.Native.Nat.{ℕ, _+_, _-_, _*_, _/_, _%_, _^_, _≤_, _<_}
-use native.Mathlib.Nat.{mul-add, mul-sub, mul-assoc, mul-div-cancel-left, eq-of-mul-eq-mul-left, le-of-mul-le-mul-left, le-of-eq, sub-add-cancel, mod-eq-of-lt, add-sub-of-le, div-one}
+use native.Mathlib.Nat.{mul-add, mul-sub, mul-assoc, mul-div-cancel-left, eq-of-mul-eq-mul-left, le-of-mul-le-mul-left, le-of-eq, le-of-lt, sub-add-cancel, mod-eq-of-lt, div-one}
 use native.Mathlib.Omega.{arith}
 use lib.ListN.{length, getD, take, drop, replicate, length-reverse, length-map}
 use lib.Pow.{low, shr-shr}
-use lib.Seq.{sets, drop-append-add, drop-drop, take-append-le}
+use lib.Seq.{sets, take-at, drop-append-add, drop-drop}
 use Rattle.codes.specs.Codes.{IsWidth, per, up, trailing, complement, chars, tab}
 use Rattle.codes.specs.Made.{Made}
 use Rattle.codes.specs.Words.{word, charsOf, flip, packed}
@@ -16,14 +16,18 @@ use Rattle.codes.proofs.CodeLaws.{complement-fits}
 use Rattle.codes.proofs.FieldLaws.{mod-low, flip-field}
 use Rattle.codes.proofs.FlipLaws.{flip-shr}
 use Rattle.codes.proofs.MadeLaws.{made-to, made-is, made-zeros}
-use Rattle.codes.proofs.PackedLaws.{packed-is}
+use Rattle.codes.proofs.PackedLaws.{up-bits, packed-is}
 use Rattle.codes.proofs.TabLaws.{length-tab, getD-tab, charsOf-tab}
-use Rattle.codes.proofs.WidthLaws.{width-pos, whole}
-use Rattle.codes.proofs.WordLaws.{Below, flip-add, flip-lt, flip-short, flip-fits, flip-mod, charsOf-mod, charsOf-take, length-charsOf, Below-reverse, Below-through}
+use Rattle.codes.proofs.WidthLaws.{width-pos, whole, below-or}
+use Rattle.codes.proofs.WordLaws.{Below, flip-add, flip-lt, flip-short, flip-fits, flip-mod, charsOf-mod, Below-reverse, Below-through}
 use Rattle.fields.specs.Fields.{flipped}
 use Rattle.writes.specs.Flips.{flippedByte}
 use Rattle.writes.specs.Writes.{flippedOver}
 use Rattle.writes.proofs.WriteLaws.{made-sets}
+
+-- the bytes that characters take, by their bits
+pub bytes-of-bits : {w : ℕ} → IsWidth w → (n : ℕ) → (w * n + 7) / 8 ≡ up w n
+bytes-of-bits W n = omega (arith, up-bits W n .0, up-bits W n .1)
 
 -- only a word's low characters count in its flip
 flip-low : (w : ℕ) (f : ℕ → ℕ) (k n x : ℕ) → w * k ≤ n → flip w f k (x % 2 ^ n) ≡ flip w f k x
@@ -46,7 +50,7 @@ rest-is {w} W bits at e l =
 -- the next k bytes of output, where `left` low bits of v are still to be reversed, from the flip r of the last 8 * k of them; where fewer
 -- are left, of the first 8 * k bits, less the bits that are not of them
 module _ {w : ℕ} (W : IsWidth w) (k v left x r : ℕ) (e : w * (left / w) ≡ left) (er : r ≡ flip w (complement w) (8 * k / w) x) (ex : x ≡ v / 2 ^ (left - 8 * k) % 2 ^ (8 * k)) where
-  pub few : left ≤ 8 * k → r / 2 ^ (8 * k - left) ≡ flip w (complement w) (left / w) v % 2 ^ (8 * k)
+  few : left ≤ 8 * k → r / 2 ^ (8 * k - left) ≡ flip w (complement w) (left / w) v % 2 ^ (8 * k)
   few l =
       ap (λ (y : ℕ). y / 2 ^ (8 * k - left)) er
       ∙ subst (λ (n : ℕ). flip w (complement w) (8 * k / w) x / 2 ^ (8 * k - n) ≡ flip w (complement w) (left / w) x) e (flip-shr W k (left / w) x fits)
@@ -88,6 +92,11 @@ module _ {w : ℕ} (W : IsWidth w) (k v left x r : ℕ) (e : w * (left / w) ≡ 
       jk : j + 8 * k / w ≡ left / w
       jk = eq-of-mul-eq-mul-left w (width-pos W) (j + 8 * k / w) (left / w) (mul-add w j (8 * k / w) ∙ ap₂ (λ (a b : ℕ). a + b) wj (whole W k) ∙ sub-add-cancel l ∙ sym e)
 
+  pub flip-next : r / 2 ^ (8 * k - left) ≡ flip w (complement w) (left / w) v % 2 ^ (8 * k)
+  flip-next =
+      below-or left (8 * k) (λ l. few (le-of-lt l))
+      (λ l. let none : 8 * k - left ≡ 0 = omega arith in ap (λ (n : ℕ). r / 2 ^ n) none ∙ div-one r ∙ enough l)
+
 -- what is left is the whole, shifted down by the bytes that are written
 pub flip-behind : {w : ℕ} → IsWidth w → (v bits at : ℕ) → w * (bits / w) ≡ bits → 8 * at ≤ bits → flip w (complement w) ((bits - 8 * at) / w) v ≡ flip w (complement w) (bits / w) v / 2 ^ (8 * at)
 flip-behind {w} W v bits at e l =
@@ -114,42 +123,38 @@ word-turn t at x {d} {e} ex l z =
     entry i h = getD-tab 8 byte i h ∙ ap (λ (y : ℕ). y % 2 ^ 8) (shr-shr t (8 * at) (8 * i) ∙ ap (λ (n : ℕ). t / 2 ^ n) (sym (mul-add 8 at i)))
 
 -- the reversed view's bytes, zeros behind, and the rest of the buffer
-pub flipped-written : {w : ℕ} → IsWidth w → (s : List ℕ) → Below 8 s → (o len used m : ℕ) {old mid new : List ℕ} → used ≡ up w len → used ≤ m → m ≤ used + trailing → used + trailing ≤ length old
-    → Made (flippedByte w (word 8 s / 2 ^ (w * o)) (w * len)) 0 m old mid → Made (λ j. 0) used (used + trailing) mid new → new ≡ flippedOver w s o len old
+pub flipped-written : {w : ℕ} → IsWidth w → (s : List ℕ) → Below 8 s → (o len used : ℕ) {old mid new : List ℕ} → used ≡ up w len → used + trailing ≤ length old
+    → Made (flippedByte w (word 8 s / 2 ^ (w * o)) (w * len)) 0 used old mid → Made (λ j. 0) used (used + trailing) mid new → new ≡ flippedOver w s o len old
 unfolding flippedOver
-flipped-written {w} W s b o len used m {old} {mid} eu lo hi room y z =
+flipped-written {w} W s b o len used {old} {mid} eu room y z =
     made-zeros used trailing z (omega (arith, y .long))
     ∙ ap₂ (λ (p q : List ℕ). p ++ (replicate trailing 0 ++ q)) front back
   where
     cs : List ℕ
     cs = flipped w (chars w s o len)
 
-    t : ℕ
-    t = flip w (complement w) (w * len / w) (word 8 s / 2 ^ (w * o))
+    f : ℕ → ℕ
+    f = flippedByte w (word 8 s / 2 ^ (w * o)) (w * len)
 
     long : length cs ≡ len
     long = length-reverse (map (complement w) (chars w s o len)) ∙ length-map (chars w s o len) (complement w) ∙ length-chars w s o len
 
-    lm : length (charsOf 8 m t) ≡ m
-    lm = length-charsOf 8 m t
-
-    em : mid ≡ charsOf 8 m t ++ drop m old
-    em = made-is y (omega arith) ∙ ap (λ (x : List ℕ). x ++ drop m old) (sym (charsOf-tab 8 m t))
+    em : mid ≡ tab used f ++ drop used old
+    em = made-is y (omega arith)
 
     front : take used mid ≡ packed w cs
     front =
-        ap (take used) em ∙ take-append-le used (charsOf 8 m t) (drop m old) (subst (λ (n : ℕ). used ≤ n) (sym lm) lo)
-        ∙ charsOf-take 8 used m t lo
+        ap (take used) em
+        ∙ take-at (tab used f) (drop used old) used (length-tab used f)
+        ∙ sym (charsOf-tab 8 used (flip w (complement w) (w * len / w) (word 8 s / 2 ^ (w * o))))
         ∙ ap₂ (charsOf 8) (eu ∙ ap (up w) (sym long))
         (ap (λ (n : ℕ). flip w (complement w) n (word 8 s / 2 ^ (w * o))) (mul-div-cancel-left len (width-pos W)) ∙ flip-field W s b (complement w) o len)
         ∙ sym (packed-is W cs (Below-reverse w (map (complement w) (chars w s o len)) (Below-through w (complement w) (complement-fits w) (chars w s o len) (chars-fit w s o len))))
 
-    -- the zeros reach beyond what the last word did
     back : drop (used + trailing) mid ≡ drop (up w len + trailing) old
     back =
-        let k : m + (used + trailing - m) ≡ used + trailing = add-sub-of-le hi in
         ap (drop (used + trailing)) em
-        ∙ ap (λ (n : ℕ). drop n (charsOf 8 m t ++ drop m old)) (sym k ∙ ap (λ (n : ℕ). n + (used + trailing - m)) (sym lm))
-        ∙ drop-append-add (charsOf 8 m t) (drop m old) (used + trailing - m)
-        ∙ drop-drop (used + trailing - m) m old
-        ∙ ap (λ (n : ℕ). drop n old) (k ∙ ap (λ (n : ℕ). n + trailing) eu)
+        ∙ ap (λ (n : ℕ). drop (n + trailing) (tab used f ++ drop used old)) (sym (length-tab used f))
+        ∙ drop-append-add (tab used f) (drop used old) trailing
+        ∙ drop-drop trailing used old
+        ∙ ap (λ (n : ℕ). drop (n + trailing) old) eu
