@@ -5,6 +5,7 @@ use crate::{LETTERS, packed_by};
 use oracle::packed_seq::{BitSeqVec, PackedSeq, PackedSeqVec, inside, revcomp_u64};
 use oracle::{Seq, SeqVec};
 use std::cmp::Ordering;
+use std::hint::black_box;
 use tsivelaro::{Chars, Refusal, bases, flags, form, words};
 
 const LEN: Chars = Chars(LETTERS);
@@ -13,6 +14,9 @@ pub fn jobs(text: &[u8]) -> Result<(), Refusal> {
     let theirs = packed_by::<PackedSeqVec>(text);
     let packed = inside::bytes(&theirs);
     writing(bases::View::new(packed, Chars(0), LEN)?, theirs.as_slice());
+    for each in [32, 30, 61, 150] {
+        reversing(packed, theirs.as_slice(), each);
+    }
     // The same bases at another offset.
     let moved = [&[0][..], &shifted(packed), &[0]].concat();
     order(packed, packed, 0)?;
@@ -71,6 +75,30 @@ fn writing(view: bases::View, all: PackedSeq) {
         |out| view.to_revcomp(out).map(|v| v.len()),
         |_| all.to_revcomp(),
         |out, a, b| a == Ok(LEN) && out == inside::bytes(&b),
+    );
+}
+
+/// Views of so many bases, one behind the other; those of 32 are whole words.
+fn reversing(packed: &[u8], all: PackedSeq, each: usize) {
+    let ours = |out: &mut Vec<u8>, i: usize| {
+        let view = bases::View::unasked(packed, Chars(i * each), Chars(each));
+        view.to_revcomp(out).map(|_| ())
+    };
+    let original = |i: usize| all.slice(i * each..(i + 1) * each).to_revcomp();
+    let (views, room) = (0..LETTERS / each, bases::room(Chars(each)));
+    job(
+        &format!("to_revcomp, {each} at a time"),
+        vec![0; room],
+        |out| views.clone().try_for_each(|i| ours(out, i)),
+        |_| views.clone().for_each(|i| drop(black_box(original(i)))),
+        |_, a, ()| {
+            let mut out = vec![0; room];
+            let mut same = |i| {
+                let done = ours(&mut out, i) == Ok(());
+                done && PackedSeq::from_raw_parts(&out, 0, each) == original(i).as_slice()
+            };
+            a == Ok(()) && views.clone().all(&mut same)
+        },
     );
 }
 

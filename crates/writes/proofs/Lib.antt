@@ -1,6 +1,7 @@
 pub mod LetterLaws
 pub mod WriteLaws
 pub mod ReverseLaws
+pub mod TableLaws
 pub mod Viewed
 pub mod Decided
 pub mod Lowest

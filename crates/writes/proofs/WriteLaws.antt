@@ -1,21 +1,27 @@
--- Bytes stored behind others, and one after another.
+-- Bytes stored behind a run of others, and one after another.
 -- Assumes nothing.
 use mathlib.Core.List.{List, [], _∷_, _++_}
-use mathlib.Core.Path.{_≡_, sym, ap, ap₂, _∙_}
-use Prim.Native.Nat.{ℕ, suc, _+_, _-_, _*_, _/_, _^_, _≤_}
+use mathlib.Core.Path.{_≡_, sym, ap, _∙_}
+use Prim.Native.Nat.{ℕ, suc, _+_, _*_, _/_, _^_, _≤_, _<_}
 use native.Mathlib.Nat.{add-suc, suc-add, add-zero}
+use native.Mathlib.Numerals.{add-one}
 use native.Mathlib.Omega.{arith}
-use lib.ListN.{length, drop, set, length-append, length-drop}
-use lib.Seq.{sets, sets-eq, take-at, drop-append-add, drop-drop}
+use lib.ListN.{length, getD, set}
+use lib.Seq.{sets}
+use Rattle.codes.specs.Made.{Made}
 use Rattle.codes.specs.Words.{charsOf}
+use Rattle.codes.proofs.MadeLaws.{made-more, made-to}
 use Rattle.codes.proofs.WordLaws.{charsOf-add, length-charsOf}
 
--- what is stored behind what was written
-pub sets-at : (a old vs : List ℕ) (at n : ℕ) → length a ≡ at → length vs ≡ n → at + n ≤ length old → sets (a ++ drop at old) at vs ≡ (a ++ vs) ++ drop (at + n) old
-sets-at a old vs at n ea en l =
-    sets-eq vs (a ++ drop at old) at (omega (arith, length-append a (drop at old), length-drop at old))
-    ∙ ap₂ (λ (p q : List ℕ). p ++ vs ++ q) (take-at a (drop at old) at ea)
-    (ap (λ (k : ℕ). drop k (a ++ drop at old)) (ap₂ (λ (p q : ℕ). p + q) (sym ea) en) ∙ drop-append-add a (drop at old) n ∙ drop-drop n at old)
+-- a run grows by what is stored behind it
+pub made-sets : {f : ℕ → ℕ} {from j : ℕ} {d e : List ℕ} (vs : List ℕ) → Made f from j d e → from ≤ j → j + length vs ≤ length d
+    → ((i : ℕ) → i < length vs → getD vs i 0 ≡ f (j + i)) → Made f from (j + length vs) d (sets e j vs)
+made-sets {j = j} [] z a l h = made-to z (sym (add-zero j))
+made-sets {f} {from} {j} {d} {e} (v ∷ vs) z a l h =
+    made-to
+    (made-sets vs (made-to (made-more z a (omega arith) (h 0 (omega arith) ∙ ap f (add-zero j))) (add-one j)) (omega arith) (omega arith)
+    (λ i m. h (suc i) (omega arith) ∙ ap f (add-suc j i ∙ sym (suc-add j i))))
+    (suc-add j (length vs) ∙ sym (add-suc j (length vs)))
 
 -- bytes stored one after another are stored together
 pub sets-append : (a b d : List ℕ) (i : ℕ) → sets (sets d i a) (i + length a) b ≡ sets d i (a ++ b)

@@ -1,1 +1,2 @@
+pub mod Flips
 pub mod Writes

@@ -26,6 +26,8 @@ pub fn print() {
     }
     strays::<2>();
     strays::<1>();
+    rests::<2>();
+    rests::<1>();
 }
 
 /// Every offset up to 2 C8, with lengths on both sides of what a word, or a read of the original, holds.
@@ -133,5 +135,22 @@ where
                 }
             }
         }
+    }
+}
+
+/// Reversed below a whole word: each of the 256 bytes, seven in a view, and each count of characters behind a word.
+fn rests<const B: usize>()
+where
+    Bits<B>: SupportedBits,
+{
+    let mut bytes: Vec<u8> = (0..=255).collect();
+    bytes.extend([0x5a; BEHIND]);
+    first(&bytes);
+    let ask = |offset, len| Asked::<B>(&bytes, offset, len).reversed(up(B, len) + BEHIND);
+    for byte in (0..249).step_by(7).chain([249]) {
+        ask(byte * per(B), 7 * per(B));
+    }
+    for rest in 1..64 / B {
+        ask(rest, 64 / B + rest);
     }
 }

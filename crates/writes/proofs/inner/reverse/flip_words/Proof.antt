@@ -1,84 +1,84 @@
--- The invariant: the first bytes of the reversed bits are written, and the others are as they were.
--- Assumes nothing.
-use mathlib.Core.List.{_++_}
-use mathlib.Core.Path.{_≡_, refl, ap, _∙_}
-use Prim.Native.Nat.{ℕ, _+_, _-_, _*_, _/_, _%_, _^_, _≤_, _<_}
+-- The invariant: a run of the reversed bytes, in whole words, and the others are as they were. Assumes nothing.
+use mathlib.Core.Path.{_≡_, refl, sym, ap, _∙_, subst}
+use Prim.Native.Nat.{ℕ, _+_, _-_, _*_, _/_, _%_, _^_, _≤_}
 use native.Mathlib.Omega.{arith}
-use lib.ListN.{length, drop}
-use lib.Seq.{length-sets}
+use lib.Pow.{shr-shr}
 use Rattle.codes.specs.Codes.{complement}
-use Rattle.codes.specs.Words.{word, charsOf, flip}
-use Rattle.writes.proofs.ReverseLaws.{rest-is, flip-turn}
+use Rattle.codes.specs.Made.{Made}
+use Rattle.codes.specs.Words.{word, flip}
+use Rattle.codes.proofs.MadeLaws.{made-none, made-to}
+use Rattle.writes.specs.Flips.{flippedByte}
+use Rattle.writes.proofs.ReverseLaws.{rest-is, enough, flip-behind, word-turn}
+use borrow.Author.Needs.{needs}
 use Rattle.writes.proofs.inner.reverse.flip_words.Statement.{statement}
 use Rattle.writes.proofs.inner.reverse.flip_words.Tie as tie
 
 abbrev Inv-loop : tie.InvT-loop
-Inv-loop w bytes p bits out₀ at₀ out at =
-    (out ≡ charsOf 8 at (flip w (complement w) (bits / w) (word 8 bytes / 2 ^ p)) ++ drop at out₀) × (at % 8 ≡ 0) × (8 * at < bits + 64) × (length out ≡ length out₀)
+Inv-loop w bytes p bits out₀ at₀ out at = Made (flippedByte w (word 8 bytes / 2 ^ p) bits) 0 at out₀ out × (at % 8 ≡ 0) × (8 * at ≤ bits)
 
 abbrev μ-loop : tie.MeasureT-loop
 μ-loop w bytes p bits out₀ at₀ out at = bits - 8 * at
 
 loop-holds : tie.Need-loop-holds Inv-loop μ-loop
-unfolding charsOf
-loop-holds c = (refl, refl, omega arith, refl)
+loop-holds c = (made-none (omega arith), refl, omega arith)
 
 mul-loop : tie.Need-mul-loop Inv-loop μ-loop
-mul-loop c = record { fits = omega (arith, c .before .before .before .pre .1 .1 .1 .0) }
+mul-loop c = search needs
 
-mul-flip-next : tie.Need-mul-flip-next Inv-loop μ-loop
-mul-flip-next c = record { fits = omega (arith, c .before .before .before .before .pre .1 .1 .1 .0) }
+add-loop : tie.Need-add-loop Inv-loop μ-loop
+add-loop c = search needs
 
-sub-flip-next : tie.Need-sub-flip-next Inv-loop μ-loop
-sub-flip-next c = omega arith
+mul-bits-at : tie.Need-mul-bits-at Inv-loop μ-loop
+mul-bits-at c = search needs
 
-flip-next-requires : tie.Need-flip-next-requires Inv-loop μ-loop
-flip-next-requires c κs =
-    let s = c .before .before .before .before in
-    let a = s .args in
-    let at = c .before .loop .at in
-    let h = s .pre .1 .1 .1 in
-    (s .pre .0, (s .pre .1 .0, ((omega arith, rest-is (s .pre .0) (a .bits) at (s .pre .1 .1 .0) (omega arith)), (omega (arith, h .0), omega (arith, h .1)))))
+sub-bits-at : tie.Need-sub-bits-at Inv-loop μ-loop
+sub-bits-at c = search needs
+
+sub-bits-at-2 : tie.Need-sub-bits-at-2 Inv-loop μ-loop
+sub-bits-at-2 c = search needs
+
+add-bits-at : tie.Need-add-bits-at Inv-loop μ-loop
+add-bits-at c = search needs
+
+bits-at-requires : tie.Need-bits-at-requires Inv-loop μ-loop
+bits-at-requires c κs = search needs
+
+flip-word-requires : tie.Need-flip-word-requires Inv-loop μ-loop
+flip-word-requires c κs = search needs
 
 store64-requires : tie.Need-store64-requires Inv-loop μ-loop
-store64-requires c κs =
-    let l = c .before .before .before in
-    omega (arith, l .before .before .before .pre .1 .1 .1 .2, l .loop .inv .3)
+store64-requires c κs = search needs
 
 add-at : tie.Need-add-at Inv-loop μ-loop
-add-at c =
-    let l = c .before .before .before .before .before .before in
-    record { fits = omega (arith, l .before .before .before .pre .1 .1 .1 .0) }
+add-at c = search needs
 
 loop-less : tie.Need-loop-less Inv-loop μ-loop
-loop-less c = omega arith
+loop-less c = search needs
 
 loop-again : tie.Need-loop-again Inv-loop μ-loop
 loop-again c =
     let k = c .before .before in
-    let o = k .before .before in
-    let l = o .before .before .loop in
-    let s = o .before .before .before .before .before in
+    let f = k .before in
+    let b = f .before .before in
+    let l = b .before .before .loop in
+    let s = b .before .before .before .before .before in
     let a = s .args in
-    let x = o .flip-next .result in
-    let room : l .at + 8 ≤ length (a .out .now) = omega (arith, s .pre .1 .1 .1 .2) in (
-      k .store64 .ensures
-          ∙ flip-turn (s .pre .0) (word 8 (a .bytes .now) / 2 ^ a .p) (a .bits) (l .at) (a .out .now) (l .out) x (s .pre .1 .1 .0) (omega arith) room (o .flip-next .ensures) (l .inv .0),
-      omega (arith, l .inv .1),
-      omega arith,
-      ap length (k .store64 .ensures) ∙ length-sets (l .out) (l .at) (charsOf 8 8 x) ∙ l .inv .3,
-    )
+    let left = a .bits - 8 * l .at in
+    let v = word 8 (a .bytes .now) / 2 ^ a .p in
+    let y = f .flip-word .result in
+    let e = s .pre .1 .1 .0 in
+    let loaded = b .bits-at .ensures ∙ ap (λ (n : ℕ). n % 2 ^ 64) (sym (shr-shr (word 8 (a .bytes .now)) (a .p) (left - 64))) in
+    let next = enough (s .pre .0) 8 v left (b .bits-at .result) y (rest-is (s .pre .0) (a .bits) (l .at) e (l .inv .2)) (f .flip-word .ensures) loaded (omega arith) in
+    let turn =
+    word-turn (flip (a .w) (complement (a .w)) (a .bits / a .w) v) (l .at) y (next ∙ ap (λ (n : ℕ). n % 2 ^ 64) (flip-behind (s .pre .0) v (a .bits) (l .at) e (l .inv .2)))
+    (omega (arith, s .pre .1 .1 .1 .2)) (l .inv .0) in
+    (subst (Made (flippedByte (a .w) v (a .bits)) 0 (l .at + 8) (a .out .now)) (sym (k .store64 .ensures)) turn, omega (arith, l .inv .1), omega arith)
 
 same-length : tie.Need-same-length Inv-loop μ-loop
-same-length c = c .before .loop .inv .3
+same-length c = c .before .loop .inv .0 .long
 
 returns : tie.Need-returns Inv-loop μ-loop
-returns c =
-    let l = c .before in
-    let a = l .before .before .before .args in
-    let e : l .loop .at ≡ 8 * ((a .bits + 63) / 64) = omega (arith, l .loop .inv .1) in
-    l .loop .inv .0
-    ∙ ap (λ (k : ℕ). charsOf 8 k (flip (a .w) (complement (a .w)) (a .bits / a .w) (word 8 (a .bytes .now) / 2 ^ a .p)) ++ drop k (a .out .now)) e
+returns c = made-to (c .before .loop .inv .0) (omega (arith, c .before .loop .inv .1))
 
 pub flip-words-spec : {M : Type 1} → statement M
 flip-words-spec =
@@ -88,9 +88,13 @@ flip-words-spec =
     μ-loop
     loop-holds
     mul-loop
-    mul-flip-next
-    sub-flip-next
-    flip-next-requires
+    add-loop
+    mul-bits-at
+    sub-bits-at
+    sub-bits-at-2
+    add-bits-at
+    bits-at-requires
+    flip-word-requires
     store64-requires
     add-at
     loop-less

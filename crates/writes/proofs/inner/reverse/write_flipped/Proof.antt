@@ -1,42 +1,47 @@
--- The words of the reversed view, then the run of zeros over what the last word reached beyond. Assumes nothing.
-use mathlib.Core.List.{_++_}
-use mathlib.Core.Path.{ap, _∙_}
-use Prim.Native.Nat.{ℕ, _+_, _*_, _/_, _^_}
+-- The whole words of the reversed view, the bytes behind them, and the run of zeros. Assumes nothing.
+use mathlib.Core.Path.{_≡_, sym, ap, _∙_}
+use Prim.Native.Nat.{ℕ, _+_, _*_, _/_}
 use native.Mathlib.Nat.{mul-div-cancel-left}
 use native.Mathlib.Omega.{arith}
-use lib.ListN.{length, drop}
-use Rattle.codes.specs.Codes.{complement}
-use Rattle.codes.specs.Words.{word, charsOf, flip}
-use Rattle.codes.proofs.PackedLaws.{up-bits}
+use lib.ListN.{length}
+use Rattle.codes.proofs.MadeLaws.{made-to, made-on}
 use Rattle.codes.proofs.TabLaws.{Below-of}
 use Rattle.codes.proofs.WidthLaws.{width-pos}
-use Rattle.writes.proofs.ReverseLaws.{flipped-written}
+use Rattle.writes.proofs.ReverseLaws.{bytes-of-bits, flipped-written}
 use Rattle.fields.proofs.LoadLaws.{Bits, view-bits}
 use borrow.Author.Needs.{needs}
 use Rattle.writes.proofs.inner.reverse.write_flipped.Statement.{statement}
 use Rattle.writes.proofs.inner.reverse.write_flipped.Tie as tie
 
-room : (s : tie.Start) → Bits (s .args .w) (length (s .args .bytes .now)) (s .args .o) (s .args .len)
-room s = view-bits (s .pre .0) (length (s .args .bytes .now)) (s .args .o) (s .args .len) (s .pre .1 .1 .0)
+module _ (s : tie.Start) where
+  room : Bits (s .args .w) (length (s .args .bytes .now)) (s .args .o) (s .args .len)
+  room = view-bits (s .pre .0) (length (s .args .bytes .now)) (s .args .o) (s .args .len) (s .pre .1 .1 .0)
 
-mul-flip-words : tie.Need-mul-flip-words
-mul-flip-words c = record { fits = omega (arith, room (c .before .before) .room, room (c .before .before) .few) }
+  -- the bits are those of whole characters
+  same : s .args .w * s .args .len / s .args .w ≡ s .args .len
+  same = mul-div-cancel-left (s .args .len) (width-pos (s .pre .0))
 
-mul-flip-words-2 : tie.Need-mul-flip-words-2
-mul-flip-words-2 c = record { fits = omega (arith, room (c .before .before) .room, room (c .before .before) .few) }
+  -- and take the bytes that are used
+  used : s .args .used ≡ (s .args .w * s .args .len + 7) / 8
+  used = s .pre .1 .1 .1 .0 ∙ sym (bytes-of-bits (s .pre .0) (s .args .len))
+
+mul-p : tie.Need-mul-p
+mul-p c = let h = room (c .before .before) in record { fits = omega (arith, h .room, h .few) }
+
+mul-bits : tie.Need-mul-bits
+mul-bits c = let h = room (c .before .before) in record { fits = omega (arith, h .room, h .few) }
 
 flip-words-requires : tie.Need-flip-words-requires
 flip-words-requires c κs =
     let s = c .before .before .before in
-    let a = s .args in
     let h = room s in
-    let u = up-bits (s .pre .0) (a .len) in (
-      s .pre .0,
-      (
-        s .pre .1 .0,
-        (ap (λ (n : ℕ). a .w * n) (mul-div-cancel-left (a .len) (width-pos (s .pre .0))), (omega (arith, h .room, h .few), h .room, omega (arith, u .0, s .pre .1 .1 .1 .0, s .pre .1 .1 .1 .1))),
-      ),
-    )
+    (s .pre .0, (s .pre .1 .0, (ap (λ (n : ℕ). s .args .w * n) (same s), (omega (arith, h .room, h .few), h .room, omega (arith, used s, s .pre .1 .1 .1 .1)))))
+
+flip-rest-requires : tie.Need-flip-rest-requires
+flip-rest-requires c κs =
+    let s = c .before .before .before .before .before .before .before in
+    let h = room s in
+    (s .pre .0, (s .pre .1 .0, (ap (λ (n : ℕ). s .args .w * n) (same s), (omega (arith, h .room, h .few), h .room, omega (arith, used s, s .pre .1 .1 .1 .1)))))
 
 add-zero-run : tie.Need-add-zero-run
 add-zero-run c = search needs
@@ -49,28 +54,25 @@ same-length c = search needs
 
 returns : tie.Need-returns
 returns c =
-    let k = c .before .before in
-    let f = k .before .before .before .before in
+    let z = c .before .before in
+    let r = z .before .before .before .before in
+    let f = r .before .before .before .before in
     let b = f .before .before .before in
     let s = b .before in
     let a = s .args in
-    let m = 8 * ((a .w * a .len + 63) / 64) in
-    let u = up-bits (s .pre .0) (a .len) in
-    let p = s .pre .1 .1 .1 in
-    let bytes = Below-of 8 (a .bytes .now) (λ i. omega (arith, b .shared-slice-known .given i)) in
-    let e = mul-div-cancel-left (a .len) (width-pos (s .pre .0)) in
-    flipped-written (s .pre .0) (a .bytes .now) bytes (a .o) (a .len) (a .used) m (a .out .now) (f .flip-words .last .1 .1 .1 .1 .0) (k .zero-run .last .0)
-    (p .0) (omega (arith, u .0, u .1, p .0)) (omega (arith, u .0, u .1, p .0)) (p .1)
-    (f .flip-words .ensures ∙ ap (λ (n : ℕ). charsOf 8 m (flip (a .w) (complement (a .w)) n (word 8 (a .bytes .now) / 2 ^ (a .w * a .o))) ++ drop m (a .out .now)) e)
-    (k .zero-run .ensures)
+    let h = s .pre .1 .1 .1 in
+    flipped-written (s .pre .0) (a .bytes .now) (Below-of 8 (a .bytes .now) (λ i. omega (arith, b .shared-slice-known .given i))) (a .o) (a .len) (a .used) (h .0) (h .1)
+    (made-to (made-on (f .flip-words .ensures) (r .flip-rest .ensures) (omega arith) (omega arith)) (sym (used s)))
+    (z .zero-run .ensures)
 
 pub write-flipped-spec : {M : Type 1} → statement M
 write-flipped-spec =
     tie.close
     (tie.spec
-    mul-flip-words
-    mul-flip-words-2
+    mul-p
+    mul-bits
     flip-words-requires
+    flip-rest-requires
     add-zero-run
     zero-run-requires
     same-length
