@@ -5,12 +5,13 @@
 # make oracle   ours against the original, over a million comparisons
 # make bench    ours against the original, timed; and the program against another FASTA reader
 # make fuzz     random calls of the C face: make fuzz CALLS=100000000 SEED=7
+# make interop  .2bit files exchanged with other programs, which it installs where they are missing
 
 FASTA = samples/reads.fa
 SOURCES := $(shell find crates -name '*.rt' -o -name '*.antt')
 LIB = target/tsivelaro/lib/libtsivelaro.a
 
-.PHONY: test run lib install oracle bench fuzz
+.PHONY: test run lib install oracle bench fuzz interop
 
 test:
 	@tools/test
@@ -39,3 +40,6 @@ bench: $(LIB) target/bin/screen
 
 fuzz:
 	@tests/run-fuzz
+
+interop: $(LIB)
+	@tests/interop/run

@@ -1,7 +1,7 @@
 /*
  * Tsivelaro: packed DNA tracks. Two-bit bases, one-bit ambiguity flags, words, comparison, reverse complement, stores, counts of
- * flags, lane streams, a stored form. Every function is proved to meet its contract, to be safe and to end, on any bytes and numbers
- * (crates/abi; docs/PROMISES.md says what is promised and what is trusted).
+ * flags, lane streams, a stored form, .2bit files. Every function is proved to meet its contract, to be safe and to end, on any bytes and
+ * numbers (crates/abi; docs/PROMISES.md says what is promised and what is trusted).
  *
  * CONVENTIONS, for every call below
  *
@@ -14,10 +14,11 @@
  *               outside the view matter to any number, character or written byte.
  *   Stores      A buffer and a length in characters, the 48 bytes behind included: TSIV_BASES_ROOM(n), TSIV_FLAGS_ROOM(n).
  *   Answer      The refusal number: 0 where the call is done, else the lowest of the numbers named whose condition holds, never
- *               another. Refused, every number behind a pointer is 0, but for a store's length, which stays what it was, and
- *               not one byte of a buffer changes. Numbers are what a call gives through a pointer without a size, the eight
- *               entries of an array [8] among them; buffers are what comes with a size. Where a condition names an answer, as
- *               in NO_ROOM for a buffer under TSIV_BASES_ROOM(*end), it is the value that the call would have given.
+ *               another. Refused, every number behind a pointer is 0, but for a store's length and the state of a .2bit file
+ *               that is being written, which stay what they were, and not one byte of a buffer changes. Numbers are what a
+ *               call gives through a pointer without a size, the eight entries of an array [8] among them; buffers are what
+ *               comes with a size. Where a condition names an answer, as in NO_ROOM for a buffer under TSIV_BASES_ROOM(*end),
+ *               it is the value that the call would have given.
  *   Pointers    Read or written during the call alone. Buffers of bytes have any alignment, all else its type's own. No two of
  *               a call's pointers may overlap, unless both are only read. A buffer of size 0 may be NULL; no other pointer may.
  *   Threads     No global state, no allocation, no system call, and of the C library memset alone. Any number of threads may
@@ -30,6 +31,7 @@
  *             a stream's context                                              1 to 2^31
  *             a stream's delays                                               0 to 2^31
  *             a window of flags                                               1 to 96
+ *             a .2bit file to be written: sequences, a name, an offset        below 2^32, up to 255 bytes, below 2^32
  */
 #ifndef TSIVELARO_H
 #define TSIVELARO_H
@@ -64,10 +66,11 @@ enum {
     TSIV_TOO_LONG = 1,   /* a view's bytes, a store's buffer or a stored form to be read exceeds 2^28 bytes */
     TSIV_BAD_STORE = 2,  /* the bytes of a store's length and 48 more exceed its buffer */
     TSIV_BAD_VIEW = 3,   /* a view's offset, length and 48 bytes behind exceed its bytes, in exact arithmetic */
-    TSIV_BAD_RANGE = 4,  /* an index not below the length; an end beyond it; a start after its end; unequal tracks */
+    TSIV_BAD_RANGE = 4,  /* an index not below the length; an end beyond it; a start after its end; unequal tracks;
+                            what a .2bit file cannot hold, or its state does not allow */
     TSIV_BAD_WORD = 5,   /* a word's length outside its range */
     TSIV_BAD_LETTER = 6, /* a byte that is no such letter; a code above 3 */
-    TSIV_BAD_FORM = 7,   /* bytes that are no stored form */
+    TSIV_BAD_FORM = 7,   /* bytes that are no stored form, or no .2bit file */
     TSIV_BAD_STREAM = 8, /* stream numbers outside their ranges */
     TSIV_NO_ROOM = 9     /* an output buffer is shorter than the answer needs; fewer entries than a store has blocks */
 };
@@ -396,6 +399,77 @@ TSIV_USE uint32_t tsiv_form_write(const uint8_t *bases, size_t bases_size, size_
  */
 TSIV_USE uint32_t tsiv_form_read(const uint8_t *form, size_t form_size, uint8_t *bases, size_t bases_size,
                                  uint8_t *flags, size_t flags_size, size_t *len);
+
+/*
+ * ---- .2bit files, version 0. 16 bytes of header: the signature 0x1A412743, the version 0, the number of sequences, a reserved word. An index
+ * entry for each sequence: a byte with the length of its name, the name, the offset of its record in the file. The records, each: the size
+ * in characters; the number of N blocks, their starts, their sizes; the number of mask blocks, their starts, their sizes; a reserved word;
+ * the bases, four a byte, T 0, C 1, A 2, G 3, the first in the highest bits. All numbers but the length of a name take four bytes.
+ *
+ * A file is written into one buffer, from its front: tsiv_twobit_start, tsiv_twobit_add for each sequence, tsiv_twobit_finish. The state
+ * between these calls is *entry and stop, where the next index entry stands and where the index ends; *place, where the next record stands;
+ * *left, how many sequences are still to be added. The bytes are little-endian, without mask blocks, with an N block for each maximal run
+ * of set flags, in rising order, and T under it; reserved words and spare bits are 0.
+ *
+ * A file is read in either order of bytes. Sound is one whose header is right (16 bytes, the signature, the version), whose entries end
+ * within the file, and whose records are sound: a record ends within the file, no N or mask block ends beyond the record's characters, and
+ * no two N blocks share a character; they may touch, be empty and stand in any order. Reserved words and spare bits may be anything, and
+ * records may lie anywhere.
+ */
+
+/* The bytes of the header and the index of count sequences, whose names have so many bytes in all. */
+#define TSIV_TWOBIT_INDEX_ROOM(count, names) ((size_t)16 + (size_t)5 * (size_t)(count) + (size_t)(names))
+
+/*
+ * Begins a file of count sequences, whose names have so many bytes in all: writes the header, out[0 .. 16]. *entry is 16, *stop and *place
+ * TSIV_TWOBIT_INDEX_ROOM(count, names), *left count. BAD_RANGE for a count of 2^32 or more; NO_ROOM for a buffer under *stop, exactly.
+ */
+TSIV_USE uint32_t tsiv_twobit_start(size_t count, size_t names, uint8_t *out, size_t out_size, size_t *entry,
+                                    size_t *stop, size_t *place, size_t *left);
+
+/*
+ * *size: the bytes of the record of a sequence with these flags: 16, 8 for each maximal run of set flags, and a byte for every four
+ * characters begun. TOO_LONG; BAD_VIEW.
+ */
+TSIV_USE uint32_t tsiv_twobit_record_size(const uint8_t *flags, size_t flags_size, size_t flag_offset, size_t flag_len,
+                                          size_t *size);
+
+/*
+ * Adds a sequence, a view of bases and a view of flags: writes its entry at *entry, its record at *place, and brings the state up to date;
+ * every other byte stays. TOO_LONG, BAD_VIEW; BAD_RANGE for unequal lengths, a name over 255 bytes, no sequence left, an entry that would
+ * end beyond stop, stop above *place, or *place of 2^32 or more; NO_ROOM for a record that would end beyond the buffer. Refused, the
+ * state stays what it was.
+ */
+TSIV_USE uint32_t tsiv_twobit_add(size_t *entry, size_t stop, size_t *place, size_t *left, const uint8_t *name,
+                                  size_t name_size, const uint8_t *bases, size_t bases_size, size_t base_offset,
+                                  size_t base_len, const uint8_t *flags, size_t flags_size, size_t flag_offset,
+                                  size_t flag_len, uint8_t *out, size_t out_size);
+
+/* *size: the bytes of the file, place. BAD_RANGE where sequences are left, entry is not stop, or stop is above place. */
+TSIV_USE uint32_t tsiv_twobit_finish(size_t entry, size_t stop, size_t place, size_t left, size_t *size);
+
+/* *count: the number of sequences. BAD_FORM for a file that is not sound. */
+TSIV_USE uint32_t tsiv_twobit_check(const uint8_t *file, size_t file_size, size_t *count);
+
+/* The cursor of the first entry: *number 0, *at 16. BAD_FORM for a header that is not right; of the rest nothing is looked at. */
+TSIV_USE uint32_t tsiv_twobit_first(const uint8_t *file, size_t file_size, size_t *number, size_t *at);
+
+/*
+ * The entry at a cursor, number and place: its name is file[*name .. *name + *name_size], its record stands at *offset; and the cursor of
+ * the next entry. BAD_FORM for a header that is not right; BAD_RANGE for a number not below that of the sequences; BAD_FORM for an entry
+ * that does not end within the file, or an offset not below file_size. Refused, the cursor is 0 too.
+ */
+TSIV_USE uint32_t tsiv_twobit_entry(const uint8_t *file, size_t file_size, size_t *number, size_t *at, size_t *name,
+                                    size_t *name_size, size_t *offset);
+
+/*
+ * The record at an offset: fills two buffers as stores of *len characters, code 3 and a set flag for a character of an N block, else its
+ * base and a clear flag; later bytes stay. *masks: the number of mask blocks. TOO_LONG for a buffer; BAD_FORM for a header that is not right
+ * or a record that is not sound; NO_ROOM for buffers under TSIV_BASES_ROOM(*len) and TSIV_FLAGS_ROOM(*len). The length stands in the file:
+ * where it is not known before, it is at most 4 * (file_size - offset).
+ */
+TSIV_USE uint32_t tsiv_twobit_record(const uint8_t *file, size_t file_size, size_t offset, uint8_t *bases,
+                                     size_t bases_size, uint8_t *flags, size_t flags_size, size_t *len, size_t *masks);
 
 #ifdef __cplusplus
 }

@@ -50,6 +50,8 @@ static void rooms(void)
     for (size_t n = SIZE_MAX / 8 - 1; n < SIZE_MAX / 8 + 3; n++)
         HOLD(tsiv_lanes_room(n) == TSIV_LANES_ROOM(n));
     HOLD(tsiv_lanes_room(SIZE_MAX) == SIZE_MAX && TSIV_LANES_ROOM(SIZE_MAX) == SIZE_MAX);
+    HOLD(TSIV_TWOBIT_INDEX_ROOM(0, 0) == 16 && TSIV_TWOBIT_INDEX_ROOM(3, 7) == 38);
+    HOLD(TSIV_TWOBIT_INDEX_ROOM(0xFFFFFFFFu, 1u) == (size_t)0xFFFFFFFF * 5 + 17);
 }
 
 /* The examples of the rules, each side of the line. */
@@ -172,6 +174,18 @@ static void nulls(void)
     HOLD(tsiv_form_write(bytes, 64, 0, 0, bytes, 64, 0, 0, NULL, 0, &a) == TSIV_NO_ROOM);
     HOLD(tsiv_form_read(NULL, 0, NULL, 0, NULL, 0, &len) == TSIV_BAD_FORM && len == 0);
     HOLD(one[0] == 5);
+    a = b = c = d = 7;
+    HOLD(tsiv_twobit_start(0, 0, NULL, 0, &a, &b, &c, &d) == TSIV_NO_ROOM && (a | b | c | d) == 0);
+    HOLD(tsiv_twobit_record_size(NULL, 0, 0, 0, &a) == TSIV_BAD_VIEW && a == 0);
+    a = 16, c = 21, d = 1;
+    HOLD(tsiv_twobit_add(&a, 21, &c, &d, NULL, 0, NULL, 0, 0, 0, bytes, 64, 0, 0, NULL, 0) == TSIV_BAD_VIEW);
+    HOLD(tsiv_twobit_add(&a, 21, &c, &d, NULL, 0, bytes, 64, 0, 0, NULL, 0, 0, 0, NULL, 0) == TSIV_BAD_VIEW);
+    HOLD(tsiv_twobit_add(&a, 21, &c, &d, NULL, 0, bytes, 64, 0, 0, bytes, 64, 0, 0, NULL, 0) == TSIV_NO_ROOM);
+    HOLD(a == 16 && c == 21 && d == 1);
+    HOLD(tsiv_twobit_check(NULL, 0, &a) == TSIV_BAD_FORM && a == 0);
+    HOLD(tsiv_twobit_first(NULL, 0, &a, &b) == TSIV_BAD_FORM && (a | b) == 0);
+    HOLD(tsiv_twobit_entry(NULL, 0, &a, &b, &c, &d, &len) == TSIV_BAD_FORM && (a | b | c | d | len) == 0);
+    HOLD(tsiv_twobit_record(NULL, 0, 0, NULL, 0, NULL, 0, &a, &b) == TSIV_BAD_FORM && (a | b) == 0);
 }
 
 /* A window of one flag: the flag that enters is the one that leaves, so that a count of 0 is enough; a count above k - 1 is refused. */
@@ -223,6 +237,60 @@ static void counts(void)
     HOLD(tsiv_flags_count(store, sizeof store, len, entries, 4, 0, 257, &total) == TSIV_BAD_RANGE);
     HOLD(tsiv_flags_count(store, sizeof store, len, entries, 4, 4, 4, &total) == 0 && total == 0);
     HOLD(tsiv_flags_clear_counted(store, sizeof store, &len, entries, 0) == 0 && len == 0 && entries[0] == 1000);
+}
+
+/* A file of two sequences, the first without a name: to the byte, and read back; what is refused changes nothing. */
+static void twobit(void)
+{
+    static const uint8_t whole[] = {0x43, 0x27, 0x41, 0x1A, 0, 0, 0, 0, 2,    0, 0, 0, 0, 0, 0, 0,  /* header */
+                                    0,    27,   0,    0,    0,                                      /* "" at 27 */
+                                    1,    'b',  53,   0,    0, 0,                                   /* "b" at 53 */
+                                    5,    0,    0,    0,    1, 0, 0, 0, 4,    0, 0, 0, 1, 0, 0, 0,  /* ACGTN */
+                                    0,    0,    0,    0,    0, 0, 0, 0, 0x9C, 0,                    /* its bases */
+                                    0,    0,    0,    0,    0, 0, 0, 0, 0,    0, 0, 0, 0, 0, 0, 0}; /* nothing */
+    const uint8_t bases[50] = {0xB4, 3}, flags[49] = {16}, b = 'b';
+    uint8_t out[70], x[51], y[50], long_name[256] = {0};
+    size_t entry = 7, stop = 7, place = 7, left = 7, size = 7, at, name, name_len, offset, len, masks;
+    memset(out, 0x5A, sizeof out);
+    HOLD(sizeof whole == 69);
+    HOLD(tsiv_twobit_start(2, 1, out, 26, &entry, &stop, &place, &left) == TSIV_NO_ROOM && entry + stop + left == 0);
+    HOLD(tsiv_twobit_start((size_t)1 << 32, 1, out, 70, &entry, &stop, &place, &left) == TSIV_BAD_RANGE);
+    HOLD(out[0] == 0x5A);
+    HOLD(tsiv_twobit_start(2, 1, out, 70, &entry, &stop, &place, &left) == 0);
+    HOLD(entry == 16 && stop == TSIV_TWOBIT_INDEX_ROOM(2, 1) && place == stop && left == 2 && out[16] == 0x5A);
+    HOLD(tsiv_twobit_finish(entry, stop, place, left, &size) == TSIV_BAD_RANGE && size == 0);
+    HOLD(tsiv_twobit_record_size(flags, 49, 0, 5, &size) == 0 && size == 26);
+#define ADD(n, m, name, name_size, room)                                                                               \
+    tsiv_twobit_add(&entry, stop, &place, &left, name, name_size, bases, 50, 0, n, flags, 49, 0, m, out, room)
+    HOLD(ADD(5, 4, NULL, 0, 70) == TSIV_BAD_RANGE);
+    HOLD(ADD(5, 5, long_name, 256, 70) == TSIV_BAD_RANGE);
+    HOLD(ADD(5, 9, NULL, 0, 70) == TSIV_BAD_VIEW);
+    HOLD(ADD(5, 5, NULL, 0, 52) == TSIV_NO_ROOM);
+    HOLD(entry == 16 && place == 27 && left == 2 && out[16] == 0x5A && out[27] == 0x5A);
+    HOLD(ADD(5, 5, NULL, 0, 53) == 0 && entry == 21 && place == 53 && left == 1 && out[53] == 0x5A);
+    HOLD(ADD(0, 0, &b, 1, 69) == 0 && entry == 27 && place == 69 && left == 0);
+    HOLD(ADD(0, 0, NULL, 0, 70) == TSIV_BAD_RANGE && entry == 27 && place == 69);
+    HOLD(tsiv_twobit_finish(entry, stop, place, left, &size) == 0 && size == 69);
+    HOLD(memcmp(out, whole, 69) == 0 && out[69] == 0x5A);
+    /* reading */
+    memset(x, 0x5A, sizeof x), memset(y, 0x5A, sizeof y);
+    HOLD(tsiv_twobit_check(whole, 69, &size) == 0 && size == 2);
+    HOLD(tsiv_twobit_check(whole, 68, &size) == TSIV_BAD_FORM && size == 0);
+    HOLD(tsiv_twobit_first(whole, 16, &size, &at) == 0 && size == 0 && at == 16);
+    HOLD(tsiv_twobit_entry(whole, 69, &size, &at, &name, &name_len, &offset) == 0 && size == 1 && at == 21);
+    HOLD(name == 17 && name_len == 0 && offset == 27);
+    HOLD(tsiv_twobit_record(whole, 69, offset, x, 50, y, 48, &len, &masks) == TSIV_NO_ROOM && len + masks == 0);
+    HOLD(tsiv_twobit_record(whole, 69, 69, x, 50, y, 49, &len, &masks) == TSIV_BAD_FORM && len + masks == 0);
+    HOLD(x[0] == 0x5A && y[0] == 0x5A);
+    HOLD(tsiv_twobit_record(whole, 69, offset, x, 51, y, 50, &len, &masks) == 0 && len == 5 && masks == 0);
+    HOLD(memcmp(x, bases, 50) == 0 && memcmp(y, flags, 49) == 0 && x[50] == 0x5A && y[49] == 0x5A);
+    HOLD(tsiv_twobit_entry(whole, 69, &size, &at, &name, &name_len, &offset) == 0 && size == 2 && at == 27);
+    HOLD(whole[name] == 'b' && name_len == 1 && offset == 53);
+    HOLD(tsiv_twobit_record(whole, 69, offset, x, 51, y, 50, &len, &masks) == 0 && len == 0 && x[0] == 0);
+    HOLD(tsiv_twobit_entry(whole, 69, &size, &at, &name, &name_len, &offset) == TSIV_BAD_RANGE);
+    HOLD(size + at + name + name_len + offset == 0);
+    out[4] = 1;
+    HOLD(tsiv_twobit_first(out, 69, &size, &at) == TSIV_BAD_FORM && tsiv_twobit_check(out, 69, &size) == TSIV_BAD_FORM);
 }
 
 /* 2^28 bytes are taken, and one more is refused, in every call that has the limit. */
@@ -283,6 +351,19 @@ static void too_long(void)
     HOLD(tsiv_form_read(big, more, out, 64, NULL, 0, &len) == TSIV_TOO_LONG);
     HOLD(tsiv_form_read(out, 64, big, more, NULL, 0, &len) == TSIV_TOO_LONG);
     HOLD(tsiv_form_read(out, 64, NULL, 0, big, more, &len) == TSIV_TOO_LONG && len == 0);
+    a = c = 16, d = 1;
+    HOLD(tsiv_twobit_record_size(big, more, 0, 1, &b) == TSIV_TOO_LONG && b == 0);
+    HOLD(tsiv_twobit_record_size(big, most, 0, 1, &b) == 0 && b == 17);
+    HOLD(tsiv_twobit_add(&a, 21, &c, &d, NULL, 0, big, more, 0, 1, out, 64, 0, 1, NULL, 0) == TSIV_TOO_LONG);
+    HOLD(tsiv_twobit_add(&a, 21, &c, &d, NULL, 0, out, 0, 0, 1, big, more, 0, 1, NULL, 0) == TSIV_TOO_LONG);
+    HOLD(tsiv_twobit_record(out, 64, 16, big, more, NULL, 0, &a, &b) == TSIV_TOO_LONG);
+    HOLD(tsiv_twobit_record(out, 64, 16, NULL, 0, big, more, &a, &b) == TSIV_TOO_LONG && a + b == 0);
+    /* a file may be longer: one without sequences, and a record of zeros */
+    HOLD(tsiv_twobit_check(big, more, &a) == TSIV_BAD_FORM);
+    HOLD(tsiv_twobit_start(0, 0, big, more, &a, &b, &c, &d) == 0 && b == 16);
+    HOLD(tsiv_twobit_check(big, more, &a) == 0 && a == 0);
+    HOLD(tsiv_twobit_record(big, more, more - 16, out, 48, NULL, 0, &a, &b) == TSIV_NO_ROOM);
+    HOLD(tsiv_twobit_record(big, more, more - 15, out, 48, NULL, 0, &a, &b) == TSIV_BAD_FORM);
     /* the longest store of flags, and all entries wrong: the largest sum */
     const size_t flags = (most - 48) * 8, blocks = TSIV_COUNTS_ROOM(flags);
     uint16_t *entries = (uint16_t *)malloc(blocks * sizeof *entries);
@@ -324,6 +405,7 @@ int main(void)
     nulls();
     windows();
     counts();
+    twobit();
     too_long();
     no_room();
     printf("face: %u passed, %u failed\n", passed, failed);

@@ -3,7 +3,8 @@
  * between two pages that cannot be touched, at the page's start or at its end by chance, so that a byte read or written outside is a
  * fault; what is only read lies in a page that can only be read. After each turn every byte around is as it was; a buffer that is
  * written changed only in the run of bytes that the rules name; a refused call changed no byte and gave zeros, and a store its old
- * length. A stored form that was written is read back and compared, and one that was read is written again.
+ * length. A stored form that was written is read back and compared, and one that was read is written again. A .2bit file that was written is
+ * read back, in either order of bytes, as it is or damaged.
  *
  * With the word `exact` all that is lent is allocated to the byte instead, for a checker that watches allocations.
  *
@@ -67,7 +68,7 @@ static void fault(int number)
 }
 
 /* What is lent in a turn. Its bytes from `from` up to `to` may change. */
-#define MOST 16
+#define MOST 32
 static struct buffer {
     uint8_t *page, *before, *bytes;
     size_t size, from, to;
@@ -166,7 +167,7 @@ static void settle(void)
     taken = ready = 0;
 }
 
-#define CALLS 80
+#define CALLS 96
 static struct {
     const char *name;
     unsigned long done, refused;
@@ -558,6 +559,257 @@ static void forms(void)
     changed(same, 0, other);
 }
 
+/* What a buffer held before a call; and that the call changed none of its bytes but those of two runs. */
+static uint8_t kept[1024];
+
+static void keep(const struct buffer *b)
+{
+    if (b->size > sizeof kept)
+        abort();
+    memcpy(kept, b->bytes, b->size);
+}
+
+static void stayed(const struct buffer *b, size_t from, size_t to, size_t again, size_t end)
+{
+    for (size_t i = 0; i < b->size; i++)
+        if (b->bytes[i] != kept[i] && !(from <= i && i < to) && !(again <= i && i < end))
+            fail("a byte changed outside the runs");
+}
+
+/* Four bytes of a .2bit file, in either order. */
+static size_t word(const uint8_t *at, bool big)
+{
+    size_t n = 0;
+    for (int i = 0; i < 4; i++)
+        n |= (size_t)at[i] << 8 * (big ? 3 - i : i);
+    return n;
+}
+
+static void swap(uint8_t *at)
+{
+    uint8_t a = at[0], b = at[1];
+    at[0] = at[3], at[1] = at[2], at[2] = b, at[3] = a;
+}
+
+/* A file that the calls wrote, in the other order of bytes. */
+static void turn_over(uint8_t *file)
+{
+    size_t count = word(file + 8, false), at = 16;
+    for (size_t i = 0; i < 4; i++)
+        swap(file + 4 * i);
+    for (; count; count--) {
+        at += 1 + file[at];
+        uint8_t *record = file + word(file + at, false);
+        size_t blocks = word(record + 4, false);
+        for (size_t i = 0; i < 2 + 2 * blocks; i++)
+            swap(record + 4 * i);
+        swap(file + at);
+        at += 4;
+    }
+}
+
+/* Some bytes changed, dropped at the end, or made a small or a large number; whether anything was done. */
+static bool damage(struct buffer *file)
+{
+    size_t times = below(2) ? 0 : 1 + below(3);
+    bool done = false;
+    for (; times && file->size; times--, done = true) {
+        size_t at = below(2) ? below(file->size) : below(file->size < 40 ? file->size : 40);
+        switch (below(4)) {
+        case 0: file->bytes[at] ^= (uint8_t)(1 << below(8)); break;
+        case 1: file->bytes[at] = (uint8_t)below(6); break;
+        case 2: file->bytes[at] = 255; break;
+        default:
+            for (size_t i = at; i < at + 4 && i < file->size; i++)
+                file->bytes[i] = (uint8_t)below(2);
+        }
+    }
+    return done;
+}
+
+/* What a .2bit file is made of: views of the same two tracks, and the front of the same name. */
+#define SEQUENCES 4
+static struct {
+    struct buffer *bases, *flags, *name;
+    struct {
+        size_t offset, len, flag_offset, name_len;
+    } at[SEQUENCES];
+    size_t many;
+} given;
+
+/* A view that is accepted, nearly always. */
+static void fair_view(size_t w, size_t size, size_t *offset, size_t *len)
+{
+    size_t room = size < 48 ? 0 : (size - 48) * (8 / w), tries = below(16) ? 9 : 1;
+    do
+        view(w, size, offset, len);
+    while (--tries && (*offset > room || *len > room - *offset));
+}
+
+/* One sequence more, in the state behind these pointers; whether it was added. */
+static bool add_to_twobit(struct buffer *out, size_t i, size_t *entry, size_t *stop, size_t *place, size_t *left)
+{
+    struct buffer *b = given.bases, *f = given.flags;
+    size_t o, n, r, m, *size = CELL(size_t), runs = 0;
+    uint32_t no;
+    fair_view(2, b->size, &o, &n);
+    fair_view(1, f->size, &r, &m);
+    if (below(16))
+        m = n = n < m ? n : m;
+    given.at[i].offset = o, given.at[i].len = n, given.at[i].flag_offset = r;
+    ASK(twobit_record_size, f->bytes, f->size, r, m, size);
+    zero(no, *size);
+    for (size_t j = 0; !no && j < m; j++)
+        runs += character(1, f->bytes, r + j) && !(j && character(1, f->bytes, r + j - 1));
+    if (!no && *size != 16 + 8 * runs + up(2, m))
+        fail("the size of a record");
+    size_t old = *entry, at = *place, more = *left, name = given.at[i].name_len;
+    keep(out);
+    ASK(twobit_add, entry, *stop, place, left, given.name->bytes, name, b->bytes, b->size, o, n, f->bytes, f->size, r,
+        m, out->bytes, out->size);
+    if (no) {
+        if (*entry != old || *place != at || *left != more)
+            fail("a refused call moved the state");
+        stayed(out, 0, 0, 0, 0);
+    } else {
+        if (*entry != old + 5 + name || *place != at + *size || *left != more - 1)
+            fail("the state behind a sequence");
+        stayed(out, old, old + 5 + name, at, at + *size);
+    }
+    return !no;
+}
+
+/* Whether a whole file was written, then of *size bytes. */
+static bool write_twobit(struct buffer *out, size_t *size)
+{
+    size_t *entry = CELL(size_t), *stop = CELL(size_t), *place = CELL(size_t), *left = CELL(size_t), names = 0;
+    size_t *state[] = {entry, stop, place, left};
+    bool right = below(16) > 0;
+    uint32_t no;
+    for (size_t i = 0; i < given.many; i++)
+        names += given.at[i].name_len = below(3) ? given.name->size : below(given.name->size + 1);
+    keep(out);
+    ASK(twobit_start, right ? given.many : number(given.many), right ? names : number(names), out->bytes, out->size,
+        entry, stop, place, left);
+    zero(no, *entry | *stop | *place | *left);
+    stayed(out, 0, no ? 0 : 16, 0, 0);
+    right = right && !no;
+    for (size_t i = 0; i < given.many; i++) {
+        if (below(32) == 0) {
+            size_t *one = state[below(4)];
+            *one = number(*one);
+            right = false;
+        }
+        right &= add_to_twobit(out, i, entry, stop, place, left);
+    }
+    ASK(twobit_finish, *entry, *stop, *place, *left, size);
+    zero(no, *size);
+    if (right && (no || *size != *place))
+        fail("a file with all its sequences is not finished");
+    changed(out, 0, out->size);
+    return right;
+}
+
+/* Whether two stores hold sequence i, code 3 where its flag is set. */
+static bool read_back(size_t i, const struct buffer *x, const struct buffer *y)
+{
+    for (size_t j = 0; j < given.at[i].len; j++) {
+        unsigned flag = character(1, given.flags->bytes, given.at[i].flag_offset + j);
+        unsigned base = character(2, given.bases->bytes, given.at[i].offset + j);
+        if (character(1, y->bytes, j) != flag || character(2, x->bytes, j) != (flag ? 3 : base))
+            return false;
+    }
+    return true;
+}
+
+/* One record; where the file is right, it is sequence i. */
+static uint32_t read_record(struct buffer *file, size_t offset, bool right, size_t i, struct buffer *x,
+                            struct buffer *y, size_t *len, size_t *masks)
+{
+    uint32_t no;
+    uint8_t before[1024];
+    keep(y);
+    memcpy(before, kept, y->size);
+    keep(x);
+    ASK(twobit_record, file->bytes, file->size, offset, x->bytes, x->size, y->bytes, y->size, len, masks);
+    zero(no, *len | *masks);
+    stayed(x, 0, no ? 0 : up(2, *len) + 48, 0, 0);
+    memcpy(kept, before, y->size);
+    stayed(y, 0, no ? 0 : up(1, *len) + 48, 0, 0);
+    if (!no && (!ended(2, x->bytes, *len) || !ended(1, y->bytes, *len)))
+        fail("the 48 zeros");
+    if (right) {
+        size_t n = given.at[i].len;
+        if (no != (x->size < up(2, n) + 48 || y->size < up(1, n) + 48 ? TSIV_NO_ROOM : TSIV_DONE))
+            fail("a record that was written is not read");
+        if (!no && (*len != n || *masks || !read_back(i, x, y)))
+            fail("a record reads back as other tracks");
+    }
+    return no;
+}
+
+/* A file is sound exactly if all its entries and records are. */
+static void read_twobit(struct buffer *file, bool right)
+{
+    size_t *count_of = CELL(size_t), *next = CELL(size_t), *at = CELL(size_t), *name = CELL(size_t),
+           *name_len = CELL(size_t), *offset = CELL(size_t), *len = CELL(size_t), *masks = CELL(size_t);
+    struct buffer *x = make(48 + below(60) - below(2)), *y = make(48 + below(40) - below(2));
+    uint32_t no;
+    bool sound = ASK(twobit_check, file->bytes, file->size, count_of) == 0, all = true;
+    zero(no, *count_of);
+    if (sound && (file->size < 16 || *count_of != word(file->bytes + 8, file->bytes[0] == 0x1A)))
+        fail("the number of sequences");
+    if (right && (!sound || *count_of != given.many))
+        fail("a file that was written is not sound");
+    ASK(twobit_first, file->bytes, file->size, next, at);
+    zero(no, *next | *at);
+    all = !no;
+    while (all) {
+        ASK(twobit_entry, file->bytes, file->size, next, at, name, name_len, offset);
+        zero(no, *next | *at | *name | *name_len | *offset);
+        if (no) {
+            all = no == TSIV_BAD_RANGE; /* past the last one */
+            break;
+        }
+        size_t i = *next - 1;
+        if (*name + *name_len + 4 != *at || *at > file->size || *offset >= file->size)
+            fail("an entry outside the file");
+        if (right && (*name_len != given.at[i].name_len || memcmp(file->bytes + *name, given.name->bytes, *name_len)))
+            fail("another name");
+        all = read_record(file, *offset, right, i, x, y, len, masks) != TSIV_BAD_FORM;
+    }
+    if (sound != all)
+        fail("a file is sound and not read, or read and not sound");
+    /* Any cursor, any offset. */
+    *next = below(2) ? below(SEQUENCES) : number(given.many);
+    *at = number(file->size);
+    ASK(twobit_entry, file->bytes, file->size, next, at, name, name_len, offset);
+    zero(no, *next | *at | *name | *name_len | *offset);
+    read_record(file, number(file->size), false, 0, x, y, len, masks);
+    changed(x, 0, x->size);
+    changed(y, 0, y->size);
+}
+
+static void twobits(void)
+{
+    struct buffer *out = make(below(8) ? 300 + below(700) : below(200));
+    given.bases = input(48 + below(40) - below(2)), given.flags = input(48 + below(30) - below(2));
+    given.name = input(below(8) ? below(9) : 250 + below(12));
+    given.many = below(SEQUENCES + 1);
+    size_t *size = CELL(size_t);
+    bool right = write_twobit(out, size);
+    /* It is read as it was written, or cut, or damaged; or any bytes are. */
+    size_t whole = right ? *size - (below(6) ? 0 : below(*size + 1)) : below(60);
+    struct buffer *file = input(whole);
+    if (right)
+        memcpy(file->bytes, out->bytes, whole);
+    right = right && whole == *size;
+    if (right && below(2))
+        turn_over(file->bytes);
+    right &= !damage(file);
+    read_twobit(file, right);
+}
+
 int main(int argc, char **argv)
 {
     unsigned long turns = argc > 1 ? strtoul(argv[1], NULL, 10) : 1000000, done = 0, refused = 0, kinds = 0,
@@ -570,7 +822,7 @@ int main(int argc, char **argv)
     signal(SIGBUS, fault);
     for (turn = 0; turn < turns; turn++) {
         size_t w = 1 + below(2);
-        switch (below(8)) {
+        switch (below(9)) {
         case 0: letters_and_words(); break;
         case 1: one_view(w); break;
         case 2: two_views(w); break;
@@ -578,7 +830,8 @@ int main(int argc, char **argv)
         case 4: counts(); break;
         case 5:
         case 6: streams(w); break;
-        default: forms();
+        case 7: forms(); break;
+        default: twobits();
         }
         settle();
     }
@@ -593,5 +846,5 @@ int main(int argc, char **argv)
     }
     printf("fuzz: %lu calls of %lu kinds, %lu done, %lu refused; %lu failures\n", done + refused, kinds, done, refused,
            failures);
-    return failures || lacking || kinds != 73;
+    return failures || lacking || kinds != 81;
 }

@@ -1,6 +1,6 @@
 /*
- * Calls that are wrong on purpose, each over the right one (the linker's --wrap): tests/run-fuzz, tests/run-form and tests/run-counts link
- * one at a time, and must find it.
+ * Calls that are wrong on purpose, each over the right one (the linker's --wrap): tests/run-fuzz, tests/run-form, tests/run-counts and
+ * tests/run-twobit link one at a time, and must find it.
  */
 #include <tsivelaro.h>
 
@@ -169,4 +169,97 @@ OVER(flags_count, const uint8_t *buffer, size_t size, size_t len, const uint16_t
     return no;
 }
 #endif
+#elif defined SPLITS_AT_A_BYTE
+/* A run of set flags ends with each byte of characters. */
+OVER(twobit_record_size, const uint8_t *flags, size_t flags_size, size_t flag_offset, size_t flag_len, size_t *size)
+{
+    uint32_t no = REAL(twobit_record_size)(flags, flags_size, flag_offset, flag_len, size);
+    for (size_t i = flag_offset + 8; !no && i < flag_offset + flag_len; i += 8)
+        if (flags[(i - 1) / 8] >> (i - 1) % 8 & flags[i / 8] >> i % 8 & 1)
+            *size += 8;
+    return no;
+}
+#elif defined LOWEST_BITS_FIRST || defined SETS_SPARE_BITS || defined LOSES_THE_STATE || defined WRITES_A_UNDER_N
+OVER(twobit_add, size_t *entry, size_t stop, size_t *place, size_t *left, const uint8_t *name, size_t name_size,
+     const uint8_t *bases, size_t bases_size, size_t base_offset, size_t base_len, const uint8_t *flags,
+     size_t flags_size, size_t flag_offset, size_t flag_len, uint8_t *out, size_t out_size)
+{
+    uint32_t no = REAL(twobit_add)(entry, stop, place, left, name, name_size, bases, bases_size, base_offset, base_len,
+                                   flags, flags_size, flag_offset, flag_len, out, out_size);
+    size_t packed = base_len / 4 + (base_len % 4 != 0);
+#if defined LOWEST_BITS_FIRST
+    for (size_t i = *place - packed; !no && i < *place; i++)
+        out[i] = (uint8_t)(out[i] << 6 | (out[i] << 2 & 0x30) | (out[i] >> 2 & 0x0C) | out[i] >> 6);
+#elif defined SETS_SPARE_BITS
+    if (!no && base_len % 4)
+        out[*place - 1] |= 1;
+    seen = (uint8_t)packed;
+#elif defined LOSES_THE_STATE
+    if (no)
+        *left = 0;
+    seen = (uint8_t)packed;
+#else
+    /* A where a flag is set. */
+    for (size_t i = 0; !no && i < base_len; i++)
+        if (flags[(flag_offset + i) / 8] >> (flag_offset + i) % 8 & 1)
+            out[*place - packed + i / 4] |= (uint8_t)(0x80 >> i % 4 * 2);
+#endif
+    return no;
+}
+#elif defined TAKES_ANY_FILE
+OVER(twobit_check, const uint8_t *file, size_t file_size, size_t *count)
+{
+    uint32_t no = REAL(twobit_check)(file, file_size, count);
+    return no && file_size >= 16 && (file[0] == 0x43 || file[3] == 0x43) ? 0 : no;
+}
+#elif defined OFFSETS_ALWAYS_LITTLE || defined OFFSET_AT_THE_END
+OVER(twobit_entry, const uint8_t *file, size_t file_size, size_t *number, size_t *at, size_t *name, size_t *name_len,
+     size_t *offset)
+{
+    size_t n = *number, from = *at;
+    uint32_t no = REAL(twobit_entry)(file, file_size, number, at, name, name_len, offset);
+    size_t end = no ? from + 1 : *name + *name_len;
+    if (no == TSIV_BAD_FORM && file_size > from)
+        end += file[from];
+    if (no == TSIV_BAD_RANGE || end < from || end > file_size || file_size - end < 4 || file[0] == (no ? 0x1A : 0x43))
+        return no;
+    size_t little = file[end] | (size_t)file[end + 1] << 8 | (size_t)file[end + 2] << 16 | (size_t)file[end + 3] << 24;
+#if defined OFFSETS_ALWAYS_LITTLE
+    if (!no)
+        *offset = little;
+    seen = (uint8_t)n;
+#else
+    if (no && little == file_size) {
+        *number = n + 1, *at = end + 4, *name = from + 1, *name_len = file[from], *offset = little;
+        return 0;
+    }
+#endif
+    return no;
+}
+#elif defined NO_ZEROS_BEHIND || defined COUNTS_NO_MASKS || defined READS_T_UNDER_N || defined READS_OTHER_FLAGS
+OVER(twobit_record, const uint8_t *file, size_t file_size, size_t offset, uint8_t *bases, size_t bases_size,
+     uint8_t *flags, size_t flags_size, size_t *len, size_t *masks)
+{
+#if defined NO_ZEROS_BEHIND
+    /* The byte behind the last flag stays what it was. */
+    uint8_t kept[4096];
+    for (size_t i = 0; i < flags_size && i < sizeof kept; i++)
+        kept[i] = flags[i];
+#endif
+    uint32_t no = REAL(twobit_record)(file, file_size, offset, bases, bases_size, flags, flags_size, len, masks);
+#if defined NO_ZEROS_BEHIND
+    if (!no && *len / 8 + 1 < sizeof kept)
+        flags[(*len + 7) / 8] = kept[(*len + 7) / 8];
+#elif defined COUNTS_NO_MASKS
+    *masks = 0;
+#elif defined READS_OTHER_FLAGS
+    if (!no && *len)
+        flags[0] ^= 1;
+#else
+    for (size_t i = 0; !no && i < *len; i++)
+        if (flags[i / 8] >> i % 8 & 1)
+            bases[i / 4] = (uint8_t)(bases[i / 4] ^ 1 << i % 4 * 2);
+#endif
+    return no;
+}
 #endif

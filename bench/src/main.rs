@@ -1,10 +1,11 @@
 //! Ours against the original, both optimised, on the same inputs, turn by turn in one process.
 //!
 //! Prints the ratio of ours to the original for each job: the median of its rounds, and the least and the largest; and both times. Jobs
-//! that the original has no call for have our time alone, and those of counts ours with entries against ours without. No job is timed before
-//! its results were held to be right.
+//! that the original has no call for have our time alone, those of counts ours with entries against ours without, and those of .2bit files ours
+//! against a copy of the file's bytes. No job is timed before its results were held to be right.
 
 mod counts;
+mod files;
 mod job;
 mod packing;
 mod streams;
@@ -22,7 +23,8 @@ fn main() -> Result<(), Refusal> {
     packing::jobs(&text)?;
     counts::jobs(&text)?;
     views::jobs(&text)?;
-    streams::jobs(&text)
+    streams::jobs(&text)?;
+    files::jobs(&text)
 }
 
 /// Letters that look random, one in a hundred an N.

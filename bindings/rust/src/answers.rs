@@ -22,7 +22,7 @@ pub enum Refusal {
     BadWord = 5,
     /// A byte that is no such letter, or a code above 3.
     BadLetter = 6,
-    /// Bytes that are no stored form.
+    /// Bytes that are no stored form, or no .2bit file.
     BadForm = 7,
     /// Stream numbers outside their ranges.
     BadStream = 8,

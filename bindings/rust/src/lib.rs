@@ -23,6 +23,7 @@ pub mod counts;
 pub mod form;
 pub mod letters;
 mod sys;
+pub mod twobit;
 mod width;
 pub mod words;
 

@@ -84,4 +84,12 @@ extern "C" {
     pub fn tsiv_flags_step_windows(bytes: *const u8, bytes_size: usize, offset: usize, len: usize, context: usize, k: usize, counts: &mut [u32; 8], step: &mut usize, answers: &mut [u32; 8]) -> u32;
     pub fn tsiv_form_write(bases: *const u8, bases_size: usize, base_offset: usize, base_len: usize, flags: *const u8, flags_size: usize, flag_offset: usize, flag_len: usize, out: *mut u8, out_size: usize, written: &mut usize) -> u32;
     pub fn tsiv_form_read(form: *const u8, form_size: usize, bases: *mut u8, bases_size: usize, flags: *mut u8, flags_size: usize, len: &mut usize) -> u32;
+    pub fn tsiv_twobit_start(count: usize, names: usize, out: *mut u8, out_size: usize, entry: &mut usize, stop: &mut usize, place: &mut usize, left: &mut usize) -> u32;
+    pub fn tsiv_twobit_record_size(flags: *const u8, flags_size: usize, flag_offset: usize, flag_len: usize, size: &mut usize) -> u32;
+    pub fn tsiv_twobit_add(entry: &mut usize, stop: usize, place: &mut usize, left: &mut usize, name: *const u8, name_size: usize, bases: *const u8, bases_size: usize, base_offset: usize, base_len: usize, flags: *const u8, flags_size: usize, flag_offset: usize, flag_len: usize, out: *mut u8, out_size: usize) -> u32;
+    pub fn tsiv_twobit_finish(entry: usize, stop: usize, place: usize, left: usize, size: &mut usize) -> u32;
+    pub fn tsiv_twobit_check(file: *const u8, file_size: usize, count: &mut usize) -> u32;
+    pub fn tsiv_twobit_first(file: *const u8, file_size: usize, number: &mut usize, at: &mut usize) -> u32;
+    pub fn tsiv_twobit_entry(file: *const u8, file_size: usize, number: &mut usize, at: &mut usize, name: &mut usize, name_size: &mut usize, offset: &mut usize) -> u32;
+    pub fn tsiv_twobit_record(file: *const u8, file_size: usize, offset: usize, bases: *mut u8, bases_size: usize, flags: *mut u8, flags_size: usize, len: &mut usize, masks: &mut usize) -> u32;
 }

@@ -2,3 +2,4 @@ pub mod DecidedBases
 pub mod DecidedFlags
 pub mod DecidedPlain
 pub mod DecidedCounts
+pub mod DecidedTwobit

@@ -20,14 +20,14 @@ swaps b zero y = 0
 swaps b (suc n) y = swaps b n (y / 2 ^ (b + b)) * 2 ^ (b + b) + ((y % 2 ^ b) * 2 ^ b + y / 2 ^ b % 2 ^ b)
 
 -- the mask's lowest field keeps the b low bits of y, and the rest of the mask meets the rest of y
-low-field : (b y e : ℕ) → bitAnd y (e * 2 ^ (b + b) + (2 ^ b - 1)) ≡ bitAnd (y / 2 ^ (b + b)) e * 2 ^ (b + b) + y % 2 ^ b
+pub low-field : (b y e : ℕ) → bitAnd y (e * 2 ^ (b + b) + (2 ^ b - 1)) ≡ bitAnd (y / 2 ^ (b + b)) e * 2 ^ (b + b) + y % 2 ^ b
 low-field b y e =
     ap (λ (n : ℕ). bitAnd n (e * 2 ^ (b + b) + (2 ^ b - 1))) (sym (split y (b + b)))
     ∙ and-block (b + b) (y / 2 ^ (b + b)) e (y % 2 ^ (b + b)) (2 ^ b - 1) (mod-lt y (pow-pos (b + b))) (lt-of-lt-of-le (ones-lt b) (pow-mono (le-add-right b b)))
     ∙ ap (λ (n : ℕ). bitAnd (y / 2 ^ (b + b)) e * 2 ^ (b + b) + n) (and-mask (y % 2 ^ (b + b)) b ∙ mod-mod-pow y b b)
 
 -- a shift by b and one by b + b, in either order
-shift-swap : (b y : ℕ) → y / 2 ^ b / 2 ^ (b + b) ≡ y / 2 ^ (b + b) / 2 ^ b
+pub shift-swap : (b y : ℕ) → y / 2 ^ b / 2 ^ (b + b) ≡ y / 2 ^ (b + b) / 2 ^ b
 shift-swap b y = shr-shr y b (b + b) ∙ ap (λ (e : ℕ). y / 2 ^ e) (sym (add-assoc b b b)) ∙ sym (shr-shr y (b + b) b)
 
 -- what the program computes is the swap
@@ -41,11 +41,11 @@ swap-is b (suc n) y =
     ∙ ap₂ (λ (p q : ℕ). p * 2 ^ (b + b) + q) (swap-is b n (y / 2 ^ (b + b))) (or-shifted-r (y % 2 ^ b) b (y / 2 ^ b % 2 ^ b) (mod-lt (y / 2 ^ b) (pow-pos b)))))
 
 -- the halves of the lowest field
-low-half : (b h e : ℕ) → (h * 2 ^ (b + b) + e % 2 ^ (b + b)) % 2 ^ b ≡ e % 2 ^ b
+pub low-half : (b h e : ℕ) → (h * 2 ^ (b + b) + e % 2 ^ (b + b)) % 2 ^ b ≡ e % 2 ^ b
 low-half b h e =
     sym (mod-mod-pow (h * 2 ^ (b + b) + e % 2 ^ (b + b)) b b) ∙ ap (λ (y : ℕ). y % 2 ^ b) (low h (b + b) (mod-lt e (pow-pos (b + b)))) ∙ mod-mod-pow e b b
 
-high-half : (b h e : ℕ) → (h * 2 ^ (b + b) + e % 2 ^ (b + b)) / 2 ^ b % 2 ^ b ≡ e / 2 ^ b % 2 ^ b
+pub high-half : (b h e : ℕ) → (h * 2 ^ (b + b) + e % 2 ^ (b + b)) / 2 ^ b % 2 ^ b ≡ e / 2 ^ b % 2 ^ b
 high-half b h e =
     sym (field (h * 2 ^ (b + b) + e % 2 ^ (b + b)) b b) ∙ ap (λ (y : ℕ). y / 2 ^ b) (low h (b + b) (mod-lt e (pow-pos (b + b)))) ∙ field e b b
 

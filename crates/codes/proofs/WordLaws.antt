@@ -69,6 +69,11 @@ pub Below-append : (w : ℕ) (a b : List ℕ) → Below w a → Below w b → Be
 Below-append w [] b h l = l
 Below-append w (x ∷ a) b h l = (h .0, Below-append w a b (h .1) l)
 
+pub Below-drop : (w i : ℕ) (bs : List ℕ) → Below w bs → Below w (drop i bs)
+Below-drop w zero bs h = h
+Below-drop w (suc i) [] h = tt
+Below-drop w (suc i) (b ∷ bs) h = Below-drop w i bs (h .1)
+
 module _ (w : ℕ) (f : ℕ → ℕ) where
   pub flip-add : (j k x : ℕ) → flip w f (j + k) x ≡ flip w f j x * 2 ^ (w * k) + flip w f k (x / 2 ^ (w * j))
   unfolding flip

@@ -2,3 +2,4 @@ pub mod ViewLaws
 pub mod LoadLaws
 pub mod Lowest
 pub mod FlagLaws
+pub mod RunLaws

@@ -16,7 +16,7 @@ use borrow.Author.Tests.{lt-ltb, le-ltb, eq-eqb, ne-eqb}
 use Rattle.codes.specs.Made.{Made}
 use Rattle.codes.proofs.MadeLaws.{made-more, made-list}
 use Rattle.codes.proofs.WidthLaws.{below-or}
-use Rattle.codes.proofs.WordLaws.{Below, pow-step}
+use Rattle.codes.proofs.WordLaws.{Below, Below-drop, pow-step}
 use Rattle.forms.specs.Numbers.{Spelling, spelt, spelling, further, led, Fits}
 
 -- ---- one byte of a number
@@ -85,11 +85,6 @@ spelling-step bs i p h l =
 
     back : suc (i - 1) ≡ i
     back = omega arith
-
-pub Below-drop : (w i : ℕ) (bs : List ℕ) → Below w bs → Below w (drop i bs)
-Below-drop w zero bs h = h
-Below-drop w (suc i) [] h = tt
-Below-drop w (suc i) (b ∷ bs) h = Below-drop w i bs (h .1)
 
 pub Below-take : (w i : ℕ) (bs : List ℕ) → Below w bs → Below w (take i bs)
 Below-take w zero bs h = tt

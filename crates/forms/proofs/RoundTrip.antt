@@ -15,12 +15,12 @@ use Rattle.codes.specs.Codes.{up, pick, chars}
 use Rattle.codes.specs.Words.{packed}
 use Rattle.codes.proofs.CharLaws.{length-chars, chars-fit, unpacked}
 use Rattle.codes.proofs.WidthLaws.{width-1, width-2}
-use Rattle.codes.proofs.WordLaws.{Below}
+use Rattle.codes.proofs.WordLaws.{Below, Below-drop}
 use Rattle.forms.specs.Forms.{stored}
 use Rattle.forms.specs.Reading.{headOf, bodyOf, isForm, formLength, baseBytes, flagBytes, spareClear}
 use Rattle.forms.specs.Numbers.{Spelling, spelt, spelling}
 use Rattle.forms.proofs.FormLaws.{isForm-tracks, formLength-is, tracks-flag}
-use Rattle.forms.proofs.NumberLaws.{spelling-spelt, spelt-spelling, Below-take, Below-drop}
+use Rattle.forms.proofs.NumberLaws.{spelling-spelt, spelt-spelling, Below-take}
 use Rattle.forms.proofs.ReadLaws.{Form, form-of, baseBytes-is, flagBytes-is}
 use Rattle.forms.proofs.TrackLaws.{length-packed, spare-packed, packed-spare}
 

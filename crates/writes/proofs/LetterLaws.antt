@@ -14,7 +14,7 @@ use Rattle.codes.proofs.MadeLaws.{made-more, made-to, made-is}
 use Rattle.codes.proofs.WidthLaws.{width-2}
 use Rattle.writes.specs.Writes.{letterAt}
 
-map-tab : (h : ℕ → ℕ) (n : ℕ) (f : ℕ → ℕ) → map h (tab n f) ≡ tab n (λ i. h (f i))
+pub map-tab : (h : ℕ → ℕ) (n : ℕ) (f : ℕ → ℕ) → map h (tab n f) ≡ tab n (λ i. h (f i))
 unfolding tab
 map-tab h zero f = refl
 map-tab h (suc n) f = ap (λ (l : List ℕ). h (f 0) ∷ l) (map-tab h n (λ i. f (suc i)))

@@ -33,7 +33,7 @@ fn load32(bytes: &[u8], at: usize) -> u64
 }
 
 // Eight bytes from `at` on.
-pub(crate) fn load64(bytes: &[u8], at: usize) -> u64
+pub fn load64(bytes: &[u8], at: usize) -> u64
     requires { ⌜ at + 8 ≤ length (now bytes) ⌝ }
     ensures { λ r. ⌜ r ≡ word 8 (now (bytes .entry)) / 2 ^ (8 * at) % 2 ^ 64 ⌝ }
 {

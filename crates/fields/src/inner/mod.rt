@@ -2,4 +2,5 @@
 pub mod flags;
 pub mod loads;
 pub mod parts;
+pub mod runs;
 pub mod words;

@@ -17,7 +17,7 @@ ghost use Rattle.codes.specs.declared.refusals.Outcome.the-variants.{Done};
 ghost use Rattle.forms.specs.Reading.{spareClear, filledWith};
 
 // Writes the k low bytes of x at `at`.
-fn put_bytes(x: u64, k: usize, out: &mut [u8], at: usize)
+pub fn put_bytes(x: u64, k: usize, out: &mut [u8], at: usize)
     requires { ⌜ at + k ≤ length (now out) ⌝ }
     ensures { λ _. ⌜ now (out .exit) ≡ take at (now (out .entry)) ++ (charsOf 8 k x ++ drop (at + k) (now (out .entry))) ⌝ }
 {

@@ -14,6 +14,11 @@ use stores::answers::Kept;
 use stores::answers::Pushed;
 use streams::answers::Filled;
 use streams::answers::Shape;
+use twobit::answers::Cursor;
+use twobit::answers::Entry;
+use twobit::answers::Read;
+use twobit::answers::Sized;
+use twowrite::answers::Stepped;
 ghost use mathlib.Core.Path.{_≡_};
 ghost use Rattle.codes.specs.Answers.{symbolSays, wordSays, word128Says};
 ghost use Rattle.codes.specs.Refusals.{answer, number, numberOf};
@@ -24,6 +29,9 @@ ghost use Rattle.order.specs.Answers.{comparedSays, foundSays};
 ghost use Rattle.order.specs.Order.{orderNumber};
 ghost use Rattle.stores.specs.Answers.{pushedSays, keptSays};
 ghost use Rattle.streams.specs.Answers.{shapeSays, filledSays};
+ghost use Rattle.twobit.specs.Answers.{sizedSays, cursorSays, entrySays, readSays};
+ghost use Rattle.twowrite.specs.Answers.{steppedSays};
+ghost use Rattle.twowrite.specs.Writing.{writing};
 
 pub(crate) fn refusal_no(refusal: Refusal) -> u32
     ensures { λ r. ⌜ r ≡ number refusal ⌝ }
@@ -253,6 +261,103 @@ pub fn restored(answer: Restored, len: &mut usize) -> u32
             refusal_no(refusal)
         }
     }
+}
+
+pub fn sized(answer: Sized, to: &mut usize) -> u32
+    ensures { λ r. ⌜ said r (now (to .exit)) ≡ sizedSays answer ⌝ }
+{
+    match answer {
+        Sized::Is(n) => {
+            *to = n;
+            0
+        }
+        Sized::Refused(refusal) => {
+            *to = 0;
+            refusal_no(refusal)
+        }
+    }
+}
+
+pub fn cursor(answer: Cursor, number: &mut usize, at: &mut usize) -> u32
+    ensures { λ r. ⌜ said r (now (number .exit), now (at .exit)) ≡ cursorSays answer ⌝ }
+{
+    match answer {
+        Cursor::Is { number: a, at: b } => {
+            *number = a;
+            *at = b;
+            0
+        }
+        Cursor::Refused(refusal) => {
+            *number = 0;
+            *at = 0;
+            refusal_no(refusal)
+        }
+    }
+}
+
+pub fn entry(
+    answer: Entry,
+    name: &mut usize,
+    size: &mut usize,
+    offset: &mut usize,
+    number: &mut usize,
+    at: &mut usize,
+) -> u32
+    ensures { λ r. ⌜ said r ((now (name .exit), now (size .exit)), (now (offset .exit), (now (number .exit), now (at .exit)))) ≡ entrySays answer ⌝ }
+{
+    match answer {
+        Entry::Is {
+            name: a,
+            size: b,
+            offset: c,
+            number: d,
+            at: e,
+        } => {
+            *name = a;
+            *size = b;
+            *offset = c;
+            *number = d;
+            *at = e;
+            0
+        }
+        Entry::Refused(refusal) => {
+            *name = 0;
+            *size = 0;
+            *offset = 0;
+            *number = 0;
+            *at = 0;
+            refusal_no(refusal)
+        }
+    }
+}
+
+pub fn sequence(answer: Read, len: &mut usize, masks: &mut usize) -> u32
+    ensures { λ r. ⌜ said r (now (len .exit), now (masks .exit)) ≡ readSays answer ⌝ }
+{
+    match answer {
+        Read::Is { len: n, masks: m } => {
+            *len = n.count();
+            *masks = m;
+            0
+        }
+        Read::Refused(refusal) => {
+            *len = 0;
+            *masks = 0;
+            refusal_no(refusal)
+        }
+    }
+}
+
+// The state of a file that is written. Where its index ends is the caller's already, but at the start.
+pub fn stepped(answer: Stepped, entry: &mut usize, place: &mut usize, left: &mut usize) -> u32
+    ensures { λ r. ⌜ said r (writing (now (entry .exit)) (answer .state .stop) (now (place .exit)) (now (left .exit))) ≡ steppedSays answer ⌝ }
+{
+    let state = answer.state;
+    let outcome = answer.outcome;
+    *entry = state.entry;
+    *place = state.place;
+    *left = state.left;
+    no(outcome)
 }
 
 // A part that is handed back, and zeros beside a refusal.

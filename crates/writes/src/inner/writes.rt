@@ -29,7 +29,7 @@ fn store32(out: &mut [u8], at: usize, x: u64)
 }
 
 // The eight bytes of x from `at` on, the lowest first.
-pub(crate) fn store64(out: &mut [u8], at: usize, x: u64)
+pub fn store64(out: &mut [u8], at: usize, x: u64)
     requires { ⌜ at + 8 ≤ length (now out) ⌝ }
     ensures { λ _. ⌜ now (out .exit) ≡ sets (now (out .entry)) at (charsOf 8 8 x) ⌝ }
 {

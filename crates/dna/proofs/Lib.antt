@@ -1,0 +1,7 @@
+mod DnaLaws
+mod MarkLaws
+pub mod NumberLaws
+mod PairLaws
+mod ReadLaws
+mod SpreadLaws
+mod WriteLaws

@@ -1,0 +1,5 @@
+pub mod Blocks
+pub mod Files
+pub mod Reading
+pub mod Answers
+pub mod Inner

@@ -1,0 +1,4 @@
+// What the public calls are made of. Only these functions ask anything of their callers.
+pub mod headers;
+pub mod numbers;
+pub mod sequences;
