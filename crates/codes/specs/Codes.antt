@@ -57,8 +57,11 @@ placeIn [] x = 0
 placeIn (y ∷ ys) x = pick (eqb x y) 0 (suc (placeIn ys x))
 
 -- the code of one of the eight letters ACGTacgt, and 4 for any other byte
+abbrev pub ofEight : ℕ → ℕ
+ofEight x = min (placeIn capitals x) (placeIn smalls x)
+
 unfoldable pub strict : ℕ → ℕ
-strict x = min (placeIn capitals x) (placeIn smalls x)
+strict x = ofEight x
 
 -- the lossy code of any byte
 abbrev pub lossy : ℕ → ℕ
