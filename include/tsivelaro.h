@@ -9,7 +9,8 @@
  *               `at` and `size`. Offsets, lengths, indices and places count characters: two bits each for `tsiv_bases_..`, one bit each
  *               for `tsiv_flags_..`.
  *   Characters  Character i stands in byte i / C8, at bit width * (i mod C8), low bits first; C8 is 4 for bases and 8 for flags.
- *               Bases are A 0, C 1, T 2, G 3; flags are 0 clear, 1 ambiguous. The bytes are the same on every machine.
+ *               Bases are A 0, C 1, T 2, G 3; flags are 0 clear, 1 ambiguous. Letters are taken capital or small; U counts as T,
+ *               and capitals with T are what is unpacked. The bytes are the same on every machine.
  *   Views       Bytes, an offset and a length. 48 bytes must be lent behind the last character; neither they nor any other bit
  *               outside the view matter to any number, character or written byte.
  *   Stores      A buffer and a length in characters, the 48 bytes behind included: TSIV_BASES_ROOM(n), TSIV_FLAGS_ROOM(n).
@@ -122,15 +123,15 @@ size_t tsiv_lanes_room(size_t steps);
 
 /* ---- Letters and codes */
 
-/* *code: the code of one of ACGTacgt. BAD_LETTER for any other byte. */
+/* *code: the code of one of ACGTUacgtu, where U has that of T. BAD_LETTER for any other byte. */
 TSIV_USE uint32_t tsiv_pack_char(uint8_t byte, uint8_t *code);
 /* The code that packing gives any byte, (byte / 2) mod 4: N gives 3. */
 TSIV_USE uint8_t tsiv_pack_char_lossy(uint8_t byte);
-/* 0 for one of ACGTacgt, 1 for every other byte. */
+/* 0 for one of ACGTUacgtu, 1 for every other byte. */
 TSIV_USE uint8_t tsiv_char_is_ambiguous(uint8_t byte);
 /* *byte: the capital letter of a code. BAD_LETTER for a code above 3. */
 TSIV_USE uint32_t tsiv_unpack_base(uint8_t code, uint8_t *byte);
-/* *pair: the capital letter that pairs with A, C, G or T. BAD_LETTER for any other byte. */
+/* *pair: the capital letter that pairs with A, C, G or T. BAD_LETTER for any other byte, U among them. */
 TSIV_USE uint32_t tsiv_complement_char(uint8_t byte, uint8_t *pair);
 /* *pair: the code of the base that pairs with a base, code xor 2. BAD_LETTER for a code above 3. */
 TSIV_USE uint32_t tsiv_complement_base(uint8_t code, uint8_t *pair);

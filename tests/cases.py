@@ -30,7 +30,8 @@ def single():
     yield "long-header", b">" + letters(9000) + b"\nACGT\n>" + letters(4094) + b"\nAC\n>" + letters(4095) + b"\nGG\n"
     yield "odd-bytes", b">a\n\x00\xff\x80ACGT\x00\r\n>\x00\xff\nacgtnN\xff\n"
     yield "every-byte", b">a\n" + bytes(b for b in range(256) if b != 10) + b"\n"
-    yield "many", b"".join(b">%d\n" % i + letters(dice.randrange(0, 40), b"ACGTacgtN") + b"\n" for i in range(5000))
+    yield "many", b"".join(b">%d\n" % i + letters(dice.randrange(0, 40), b"ACGTUacgtuN") + b"\n" for i in range(5000))
+    yield "rna-at-every-place", b"".join(b">\n" + other * i + u + other * (23 - i) + b"\n" for u in (b"U", b"u") for other in (b"A", b"N") for i in range(24))
     yield "headers", b">\n" * 5000
     yield "blank", b"\n" * 9000 + b">a\nAC\n\n\n" + b"\n" * 5000 + b"GT\n"
     yield "late-refused", b"\n" * 9000 + b"ACGT\n>a\nAC\n"
@@ -70,13 +71,13 @@ def ends_at_cuts():
 
 
 def at_random():
-    """Bytes among CR, LF, `>`, A, C and N, lengths near the places where a read, a line or a record ends."""
-    lively, plain, long = (3, 3, 1, 2, 2, 2), (2, 2, 0.05, 40, 40, 40), (1, 0.3, 0, 500, 500, 500)
+    """Bytes among CR, LF, `>`, A, C, N, U and u, lengths near the places where a read, a line or a record ends."""
+    lively, plain, long = (3, 3, 1, 2, 2, 2, 1, 1), (2, 2, 0.05, 40, 40, 40, 20, 20), (1, 0.3, 0, 500, 500, 500, 250, 250)
     for _ in range(RANDOM):
         near = dice.choice((0, 0, 4096, 4096, 8192, 8192, 16384))
         size = dice.randrange(14) if near == 0 else near + dice.randrange(-6, 9)
         weights = dice.choice((lively, lively, plain, long)) if near < 16384 else long
-        data = bytearray(dice.choices(b"\r\n>ACN", weights, k=size))
+        data = bytearray(dice.choices(b"\r\n>ACNUu", weights, k=size))
         if dice.random() < 0.8:
             data[:0] = dice.choice((b">", b">\n", b">A\r\n", b"\r\n>\r\n", b"\n\r\n>\n"))
         for place in dice.sample(PLACES, 4):

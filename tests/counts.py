@@ -24,7 +24,7 @@ def data(flags):
 
 
 def flag(letter):
-    return int(letter not in b"ACGTacgt")
+    return int(letter not in b"ACGTUacgtu")
 
 
 def listed(some):
@@ -126,7 +126,7 @@ class Store:
 
 
 def letters(n):
-    return bytes(dice.choices(b"ACGTacgtNnRU-\0\xff", k=n)) if dice.random() < 0.8 else b"N" * n
+    return bytes(dice.choices(b"ACGTUacgtuNnR-\0\xff", k=n)) if dice.random() < 0.8 else b"N" * n
 
 
 def near(*marks):

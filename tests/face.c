@@ -74,7 +74,7 @@ static void worked(void)
     low = high = 7;
     HOLD(tsiv_rev_u128(1, 0, 129, &low, &high) == TSIV_BAD_WORD && low == 0 && high == 0);
     HOLD(tsiv_rev_u128(1, 0, 128, &low, &high) == 0 && low == 0 && high == (uint64_t)1 << 63);
-    HOLD(tsiv_pack_char_lossy('N') == 3 && tsiv_char_is_ambiguous('U') == 1 && tsiv_char_is_ambiguous('t') == 0);
+    HOLD(tsiv_pack_char_lossy('N') == 3 && tsiv_char_is_ambiguous('N') == 1 && tsiv_char_is_ambiguous('t') == 0);
     code = 7;
     HOLD(tsiv_pack_char('N', &code) == TSIV_BAD_LETTER && code == 0);
     HOLD(tsiv_complement_char('A', &code) == 0 && code == 'T');
@@ -110,6 +110,54 @@ static void worked(void)
     HOLD(tsiv_flags_shape(10, 3, 1, &a, &b, &c) == 0 && a == 8 && b == 10 && c == 56);
     a = b = c = 7;
     HOLD(tsiv_bases_shape(10, 0, 1, &a, &b, &c) == TSIV_BAD_STREAM && a + b + c == 0);
+}
+
+/* U and u count as T, at each place of a byte. T is what is unpacked, and U has no complement. */
+static void rna(void)
+{
+    uint8_t code, track[64], letters[5];
+    size_t a, b, len;
+    uint32_t lanes[8 * 12];
+    HOLD(tsiv_char_is_ambiguous('U') == 0 && tsiv_char_is_ambiguous('u') == 0);
+    HOLD(tsiv_pack_char('U', &code) == 0 && code == 2);
+    HOLD(tsiv_pack_char('u', &code) == 0 && code == 2);
+    HOLD(tsiv_pack_char_lossy('U') == 2 && tsiv_pack_char_lossy('u') == 2);
+    code = 7;
+    HOLD(tsiv_complement_char('U', &code) == TSIV_BAD_LETTER && code == 0);
+    code = 7;
+    HOLD(tsiv_complement_char('u', &code) == TSIV_BAD_LETTER && code == 0);
+#define AS_T(W, U, T)                                                                                                  \
+    do {                                                                                                               \
+        int alike = 1;                                                                                                 \
+        for (size_t i = 0; i < 4 * 16; i++) {                                                                          \
+            uint8_t of_u[64], of_t[64], text_u[16], text_t[16];                                                        \
+            size_t place = i % 16, from = i / 16 % 2 ? place : 0, n = i / 16 % 2 ? 1 : 16, len_u = 16, len_t = 16;     \
+            memset(text_u, i < 32 ? 'N' : 'A', 16);                                                                    \
+            memcpy(text_t, text_u, 16);                                                                                \
+            text_u[place] = U, text_t[place] = T;                                                                      \
+            memset(of_u, 0xEE, 64), memset(of_t, 0xEE, 64);                                                            \
+            alike &= tsiv_##W##_overwrite(of_u, 64, &len_u, from, text_u + from, n) == 0;                              \
+            alike &= tsiv_##W##_overwrite(of_t, 64, &len_t, from, text_t + from, n) == 0;                              \
+            alike &= memcmp(of_u, of_t, 64) == 0;                                                                      \
+            len_u = len_t = from;                                                                                      \
+            alike &= tsiv_##W##_push_ascii(of_u, 64, &len_u, text_u + from, n, &a, &b) == 0;                           \
+            alike &= tsiv_##W##_push_ascii(of_t, 64, &len_t, text_t + from, n, &a, &b) == 0;                           \
+            alike &= memcmp(of_u, of_t, 64) == 0;                                                                      \
+        }                                                                                                              \
+        HOLD(alike);                                                                                                   \
+    } while (0)
+    AS_T(bases, 'U', 'T');
+    AS_T(bases, 'u', 't');
+    AS_T(flags, 'U', 'T');
+    AS_T(flags, 'u', 't');
+    HOLD(tsiv_bases_clear(track, 64, &len) == 0);
+    HOLD(tsiv_bases_push_ascii(track, 64, &len, (const uint8_t *)"ACGUu", 5, &a, &b) == 0 && len == 5);
+    HOLD(tsiv_bases_unpack(track, 64, 0, len, letters, 5) == 0 && memcmp(letters, "ACGTT", 5) == 0);
+    /* windows of two flags: only those with the N are set */
+    HOLD(tsiv_flags_clear(track, 64, &len) == 0);
+    HOLD(tsiv_flags_push_ascii(track, 64, &len, (const uint8_t *)"UuNUu", 5, &a, &b) == 0 && track[0] == 4);
+    HOLD(tsiv_flags_fill_windows(track, 64, 0, len, 2, 2, 1, lanes, 8 * 12, &a, &b) == 0 && a == 8);
+    HOLD(lanes[0] == 0 && lanes[8] == UINT32_MAX && lanes[16] == UINT32_MAX && lanes[24] == 0 && lanes[32] == 0);
 }
 
 /* A buffer of size 0 may be NULL, in every call that takes one. */
@@ -402,6 +450,7 @@ int main(void)
     versions_and_names();
     rooms();
     worked();
+    rna();
     nulls();
     windows();
     counts();

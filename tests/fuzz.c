@@ -105,7 +105,7 @@ static struct buffer *make(size_t size)
 {
     struct buffer *b = place(size);
     for (size_t i = 0; i < size; i++)
-        b->bytes[i] = below(3) ? (uint8_t)dice() : "ACGTNacgtn>\n"[below(12)];
+        b->bytes[i] = below(3) ? (uint8_t)dice() : "ACGTUNacgtun>\n"[below(14)];
     return b;
 }
 

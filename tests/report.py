@@ -40,7 +40,7 @@ def report(data):
         if len(letters) > 16384:
             text += f"{number}\ttoo-long\n"
         else:
-            ambiguous = sum(1 for b in letters if b not in b"ACGTacgt")
+            ambiguous = sum(1 for b in letters if b not in b"ACGTUacgtu")
             text += f"{number}\t{len(letters)}\t{ambiguous}\t{strand(letters)}\n"
     return text + f"total\t{len(records)}\n"
 

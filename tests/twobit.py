@@ -279,7 +279,7 @@ def fasta(text):
             found.append(((line[1:].split() or [b""])[0], b""))
         elif line:
             found[-1] = found[-1][0], found[-1][1] + line
-    return [(name, [letter // 2 % 4 for letter in letters], [int(letter not in b"ACGTacgt") for letter in letters]) for name, letters in found]
+    return [(name, [letter // 2 % 4 for letter in letters], [int(letter not in b"ACGTUacgtu") for letter in letters]) for name, letters in found]
 
 
 if sys.argv[1] == "-":

@@ -115,6 +115,17 @@ OVER(flags_push_ascii_counted, uint8_t *buffer, size_t size, size_t *len, uint16
         entries[b] = (uint16_t)kept;
     return no;
 }
+#elif defined FLAGS_U
+/* U is ambiguous. */
+OVER(flags_push_ascii_counted, uint8_t *buffer, size_t size, size_t *len, uint16_t *entries, size_t entries_size,
+     const uint8_t *letters, size_t letters_size, size_t *start, size_t *end)
+{
+    static uint8_t other[2048];
+    const uint8_t *given = letters_size <= sizeof other ? other : letters;
+    for (size_t i = 0; given == other && i < letters_size; i++)
+        other[i] = letters[i] == 'U' ? 'N' : letters[i];
+    return REAL(flags_push_ascii_counted)(buffer, size, len, entries, entries_size, given, letters_size, start, end);
+}
 #elif defined WANTS_ONE_MORE
 OVER(flags_push_ascii_counted, uint8_t *buffer, size_t size, size_t *len, uint16_t *entries, size_t entries_size,
      const uint8_t *letters, size_t letters_size, size_t *start, size_t *end)

@@ -27,8 +27,8 @@ def run(program, *words, given=b""):
 
 
 def shown(letters):
-    """What a reader of the .2bit file shows: ambiguous letters are N, and case is lost."""
-    return "".join(letter if letter in "ACGT" else "N" for letter in letters.upper())
+    """What a reader of the .2bit file shows: U is T, ambiguous letters are N, and case is lost."""
+    return "".join(letter if letter in "ACGT" else "N" for letter in letters.upper().replace("U", "T"))
 
 
 def fasta(sequences, width, end):
@@ -90,7 +90,7 @@ def some(n):
     """Letters with runs of N, of other ambiguous letters, of small ones."""
     text = ""
     while len(text) < n:
-        text += "".join(dice.choices(dice.choice(["ACGT", "ACGT", "acgt", "N", "n", "ACGTN", "RYKMSWBDHVUN"]), k=dice.choice([1, 2, 3, 4, 5, 8, 60])))
+        text += "".join(dice.choices(dice.choice(["ACGT", "ACGU", "acgt", "acgu", "N", "n", "ACGTN", "RYKMSWBDHVUN"]), k=dice.choice([1, 2, 3, 4, 5, 8, 60])))
     return text[:n]
 
 

@@ -1,4 +1,14 @@
-//! Letters and codes, one at a time.
+//! Letters and codes, one at a time. RNA writes U, which counts as T:
+//!
+//! ```
+//! use tsivelaro::{letters, Refusal};
+//!
+//! assert_eq!(letters::pack_char(b'U'), letters::pack_char(b'T'));
+//! assert_eq!([b'u', b't', b'N'].map(letters::char_is_ambiguous), [0, 0, 1]);
+//! assert_eq!(letters::unpack_base(letters::pack_char(b'u')?), Ok(b'T'));
+//! assert_eq!(letters::complement_char(b'U'), Err(Refusal::BadLetter));
+//! # Ok::<(), Refusal>(())
+//! ```
 
 use crate::{sys, Refusal};
 
@@ -10,7 +20,7 @@ fn symbol(call: Call, byte: u8) -> Result<u8, Refusal> {
     Refusal::check(unsafe { call(byte, &mut to) }).map(|()| to)
 }
 
-/// The code of one of ACGTacgt.
+/// The code of one of ACGTUacgtu.
 pub fn pack_char(byte: u8) -> Result<u8, Refusal> {
     symbol(sys::tsiv_pack_char, byte)
 }
@@ -21,7 +31,7 @@ pub fn pack_char_lossy(byte: u8) -> u8 {
     unsafe { sys::tsiv_pack_char_lossy(byte) }
 }
 
-/// 0 for one of ACGTacgt, 1 for every other byte.
+/// 0 for one of ACGTUacgtu, 1 for every other byte.
 pub fn char_is_ambiguous(byte: u8) -> u8 {
     // SAFETY: it takes a number.
     unsafe { sys::tsiv_char_is_ambiguous(byte) }

@@ -1,8 +1,8 @@
--- The laws of codes: each is a character of its width, and a byte that is none of the eight letters has no strict code.
+-- The laws of codes: each is a character of its width, and a byte that is none of the ten letters has no strict code.
 -- Assumes nothing.
 use mathlib.Core.Bool.{Bool, true, false}
 use mathlib.Core.List.{List, [], _∷_}
-use mathlib.Core.Path.{_≡_, refl}
+use mathlib.Core.Path.{_≡_, refl, _∙_}
 use Prim.Native.Nat.{ℕ, _^_, _<_, _/_}
 use native.Mathlib.Decide.{ℕ-discrete}
 use native.Mathlib.Nat.{lt-of-lt-of-le, mod-lt}
@@ -12,7 +12,7 @@ use lib.Dec.{ltb, lit<}
 use lib.ListN.{length}
 use lib.Pow.{pow-mono}
 use borrow.Author.Tests.{eq-eqb, ne-eqb}
-use Rattle.codes.specs.Codes.{IsWidth, pick, placeIn, capitals, smalls, strict, lossy, flag, code, complement}
+use Rattle.codes.specs.Codes.{IsWidth, pick, placeIn, capitals, smalls, ofEight, strict, lossy, flag, code, complement}
 use Rattle.codes.proofs.WidthLaws.{width-pos}
 
 -- x is not in the list
@@ -24,9 +24,13 @@ pub place-out : (ys : List ℕ) (x : ℕ) → Out x ys → placeIn ys x ≡ leng
 place-out [] x h = refl
 place-out (y ∷ ys) x h = rw (ne-eqb x y (h .0), place-out ys x (h .1))
 
-pub strict-out : (x : ℕ) → Out x capitals → Out x smalls → strict x ≡ 4
+-- the strict code differs from that of the eight letters at U and u alone
+pub strict-eight : (x : ℕ) → Out x (85 ∷ 117 ∷ []) → strict x ≡ ofEight x
 unfolding strict
-strict-out x h l = rw (place-out capitals x h, place-out smalls x l)
+strict-eight x u = rw (ne-eqb x 85 (u .0), ne-eqb x 117 (u .1 .0))
+
+pub strict-out : (x : ℕ) → Out x capitals → Out x smalls → Out x (85 ∷ 117 ∷ []) → strict x ≡ 4
+strict-out x h l u = strict-eight x u ∙ rw (place-out capitals x h, place-out smalls x l)
 
 pub lossy-lt : (x : ℕ) → lossy x < 2 ^ 2
 lossy-lt x = omega arith

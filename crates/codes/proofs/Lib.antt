@@ -4,6 +4,7 @@ pub mod OutcomeLaws
 pub mod Lowest
 pub mod AnswerLaws
 pub mod CodeLaws
+pub mod RnaLaws
 pub mod WordLaws
 pub mod TabLaws
 pub mod CharLaws

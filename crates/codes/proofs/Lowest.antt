@@ -14,7 +14,7 @@ use Rattle.codes.specs.Refusals.{Test, first, number, numberOf, badWord,
 use Rattle.codes.specs.declared.refusals.Outcome.the-variants.{Refused}
 use Rattle.codes.specs.declared.refusals.Refusal.{Refusal}
 use Rattle.codes.specs.declared.refusals.Refusal.the-variants.{TooLong, BadStore, BadView, BadRange, BadWord, BadLetter, BadForm, BadStream, NoRoom}
-use Rattle.codes.proofs.RefusalLaws.{outcomeAt, outcomeAt-number}
+use Rattle.codes.proofs.RefusalLaws.{both, outcomeAt, outcomeAt-number}
 
 -- the numbers of a list of tests do not descend, from n on
 abbrev pub ascendingFrom : ℕ → List Test → Bool
@@ -39,15 +39,11 @@ number-pos BadForm = omega arith
 number-pos BadStream = omega arith
 number-pos NoRoom = omega arith
 
-and-both : (a b : Bool) → (a && b) ≡ true → (a ≡ true) × (b ≡ true)
-and-both true b e = (refl, e)
-and-both false b e = let z : _≡_ {A = ℕ} 0 1 = cc in absurd (omega arith)
-
 -- no number is below the first
 at-least : (n : ℕ) (ts : List Test) → ascendingFrom n ts ≡ true → (t : Test) → List·Memᴰ t ts → n ≤ number (t .1)
 at-least n [] e t m = absurd (List·Memᴰ·not-nil m)
 at-least n (u ∷ us) e t m =
-    let b = and-both (leb n (number (u .1))) _ e in
+    let b = both (leb n (number (u .1))) _ e in
     let l = leb-true n (number (u .1)) (b .0) in
     ⊎-elim (λ p. subst (λ (x : Test). n ≤ number (x .1)) (sym p) l) (λ k. le-trans l (at-least (number (u .1)) us (b .1) t k)) (List·Memᴰ·cases-cons m)
 
@@ -55,11 +51,11 @@ lowest-of : (n : ℕ) (ts : List Test) → ascendingFrom n ts ≡ true → (t : 
 lowest-of n [] e t m h = absurd (List·Memᴰ·not-nil m)
 lowest-of n ((true, r) ∷ us) e t m h = (
   number-pos r,
-  ⊎-elim (λ p. subst (λ (x : Test). number r ≤ number (x .1)) (sym p) (omega arith)) (λ k. at-least (number r) us (and-both (leb n (number r)) _ e .1) t k) (List·Memᴰ·cases-cons m),
+  ⊎-elim (λ p. subst (λ (x : Test). number r ≤ number (x .1)) (sym p) (omega arith)) (λ k. at-least (number r) us (both (leb n (number r)) _ e .1) t k) (List·Memᴰ·cases-cons m),
 )
 lowest-of n ((false, r) ∷ us) e t m h =
     ⊎-elim (λ p. let q = sym h ∙ ap (λ (x : Test). x .0) p in let z : _≡_ {A = ℕ} 0 1 = cc in absurd (omega arith))
-    (λ k. lowest-of (number r) us (and-both (leb n (number r)) _ e .1) t k h) (List·Memᴰ·cases-cons m)
+    (λ k. lowest-of (number r) us (both (leb n (number r)) _ e .1) t k h) (List·Memᴰ·cases-cons m)
 
 only-of : (ts : List Test) (r : Refusal) → first ts ≡ Refused r → List·Memᴰ (true, r) ts
 only-of [] r e = let z : _≡_ {A = ℕ} 0 1 = cc in absurd (omega arith)

@@ -1,6 +1,6 @@
 -- The laws of refusals: of tests in a row the first that holds decides, and an answer tells its outcome.
 -- Assumes nothing.
-use mathlib.Core.Bool.{Bool, true, false, _||_, true≢false}
+use mathlib.Core.Bool.{Bool, true, false, _&&_, _||_, true≢false}
 use mathlib.Core.List.{List, [], _∷_, _++_}
 use mathlib.Core.Path.{_≡_, refl, sym, ap, _∙_}
 use Prim.Native.Nat.{ℕ, _≤_, zero-le}
@@ -20,6 +20,11 @@ ltb-zero n = le-ltb n 0 zero-le
 pub neither : (a b : Bool) → (a || b) ≡ false → (a ≡ false) × (b ≡ false)
 neither true b e = (e, absurd (true≢false e))
 neither false b e = (refl, e)
+
+-- and where one and another hold together, both do
+pub both : (a b : Bool) → (a && b) ≡ true → (a ≡ true) × (b ≡ true)
+both true b e = (refl, e)
+both false b e = absurd (true≢false (sym e))
 
 -- a word's length is in its range where the test does not hold
 pub word-in : (least most k : ℕ) → badWord least most k .0 ≡ false → (least ≤ k) × (k ≤ most)

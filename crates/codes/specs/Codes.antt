@@ -57,14 +57,22 @@ placeIn [] x = 0
 placeIn (y ∷ ys) x = pick (eqb x y) 0 (suc (placeIn ys x))
 
 -- the code of one of the eight letters ACGTacgt, and 4 for any other byte
+abbrev pub ofEight : ℕ → ℕ
+ofEight x = min (placeIn capitals x) (placeIn smalls x)
+
+-- a letter, with T for U and t for u
+abbrev pub withT : ℕ → ℕ
+withT x = pick (eqb x 85) 84 (pick (eqb x 117) 116 x)
+
+-- the code of one of the ten letters ACGTUacgtu, where U counts as T, and 4 for any other byte
 unfoldable pub strict : ℕ → ℕ
-strict x = min (placeIn capitals x) (placeIn smalls x)
+strict x = ofEight (withT x)
 
 -- the lossy code of any byte
 abbrev pub lossy : ℕ → ℕ
 lossy x = x / 2 % 4
 
--- 0 for the eight letters, 1 for every other byte
+-- 0 for the ten letters, 1 for every other byte
 unfoldable pub flag : ℕ → ℕ
 unfolding strict
 flag x = pick (ltb (strict x) 4) 0 1

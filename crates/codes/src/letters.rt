@@ -12,7 +12,7 @@ pub enum Symbol {
     Refused(Refusal),
 }
 
-// The code of one of the letters ACGTacgt.
+// The code of one of the letters ACGTUacgtu; U has that of T.
 pub fn pack_char(byte: u8) -> Symbol
     ensures { λ r. ⌜ symbolSays r ≡ answer (first (badLetter byte ∷ [])) (strict byte) 0 ⌝ }
 {
@@ -21,6 +21,7 @@ pub fn pack_char(byte: u8) -> Symbol
         b'C' | b'c' => Symbol::Is(1),
         b'T' | b't' => Symbol::Is(2),
         b'G' | b'g' => Symbol::Is(3),
+        b'U' | b'u' => Symbol::Is(2),
         _ => Symbol::Refused(Refusal::BadLetter),
     }
 }
@@ -32,12 +33,13 @@ pub fn pack_char_lossy(byte: u8) -> u8
     byte / 2 % 4
 }
 
-// 0 for the letters ACGTacgt, 1 for every other byte.
+// 0 for the letters ACGTUacgtu, 1 for every other byte.
 pub fn char_is_ambiguous(byte: u8) -> u8
     ensures { λ r. ⌜ r ≡ flag byte ⌝ }
 {
     match byte {
         b'A' | b'C' | b'G' | b'T' | b'a' | b'c' | b'g' | b't' => 0,
+        b'U' | b'u' => 0,
         _ => 1,
     }
 }

@@ -12,3 +12,4 @@ pub mod Viewed
 pub mod Untouched
 pub mod Decided
 pub mod Called
+pub mod Rna

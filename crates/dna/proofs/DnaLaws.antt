@@ -1,6 +1,5 @@
 -- Words of 32 bases: their pairs of bits one by one, and the bytes of the packed bases that they are.
 -- Assumes nothing.
-use mathlib.Core.Bool.{Bool, true, false}
 use mathlib.Core.List.{List, [], _∷_, map, reverse}
 use mathlib.Core.Path.{_≡_, refl, sym, ap, _∙_}
 use Prim.Native.Nat.{ℕ, zero, suc, _+_, _-_, _*_, _/_, _%_, _^_, _<_}
@@ -11,16 +10,12 @@ use lib.ListN.{getD}
 use lib.Pow.{pow-pos, shr-shr}
 use Rattle.codes.specs.Codes.{pick, tab}
 use Rattle.codes.specs.Words.{word, charsOf, flip}
+use Rattle.codes.proofs.CodeLaws.{pick-lt}
 use Rattle.codes.proofs.FieldLaws.{field-of}
 use Rattle.codes.proofs.TabLaws.{getD-tab, tab-ext, Below-tab, Below-getD, word-at, charsOf-tab}
 use Rattle.codes.proofs.WordLaws.{Below-reverse, Below-through, word-charsOf, charsOf-mod, charsOf-fit, flip-lt}
 use Rattle.writes.proofs.LetterLaws.{map-tab}
 use Rattle.dna.specs.Dna.{exchanged}
-
--- both below n
-pick-lt : (b : Bool) {n x y : ℕ} → x < n → y < n → pick b x y < n
-pick-lt true h l = h
-pick-lt false h l = l
 
 exchanged-lt : (c : ℕ) → exchanged c < 4
 exchanged-lt c = Below-getD 2 (2 ∷ 1 ∷ 0 ∷ 3 ∷ []) (lit< tt, (lit< tt, (lit< tt, (lit< tt, tt)))) c
@@ -59,7 +54,7 @@ under m x f i = pick (eqb (f / 2 ^ i % 2) 0) (x / 2 ^ (2 * i) % 4) m
 pub under-pair : (m x f r : ℕ) → m < 4 → r ≡ word 2 (tab 32 (under m x f)) → (i : ℕ) → i < 32 → r / 2 ^ (2 * i) % 4 ≡ under m x f i
 under-pair m x f r h e i l =
     ap (λ (y : ℕ). y / 2 ^ (2 * i) % 4) e
-    ∙ pair-of (under m x f) (λ j. pick-lt (eqb (f / 2 ^ j % 2) 0) (mod-lt (x / 2 ^ (2 * j)) (pow-pos 2)) h) i l
+    ∙ pair-of (under m x f) (λ j. pick-lt (eqb (f / 2 ^ j % 2) 0) (x / 2 ^ (2 * j) % 4) m 4 (mod-lt (x / 2 ^ (2 * j)) (pow-pos 2)) h) i l
 
 -- ---- a word with each byte in reverse, exchanged
 

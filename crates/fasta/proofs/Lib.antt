@@ -23,4 +23,5 @@ pub mod TurnLaws
 pub mod Chunked
 pub mod Collected
 pub mod LineEnds
+pub mod Rna
 pub mod Decided

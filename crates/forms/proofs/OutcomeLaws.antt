@@ -1,19 +1,20 @@
 -- Tests in a row, one by one; and what holds where writing is not refused.
 -- Assumes nothing.
-use mathlib.Core.Bool.{Bool, true, false, _&&_, not}
+use mathlib.Core.Bool.{true, false}
 use mathlib.Core.List.{List, [], _∷_}
 use mathlib.Core.Path.{_≡_, refl, sym, ap, _∙_}
 use Prim.Native.Nat.{ℕ, zero, suc, _+_, _*_, _^_, _≤_, _<_}
 use native.Mathlib.Omega.{arith}
 use lib.Dec.{ltb, leb, eqb}
 use lib.ListN.{take, drop}
-use borrow.Author.Tests.{ltb-false, eq-eqb, ne-eqb, le-leb, lt-leb, eqb-true, leb-true}
+use borrow.Author.Tests.{ltb-false, eq-eqb, ne-eqb, le-leb, lt-leb, eqb-true, leb-true, not-false}
 use Rattle.codes.specs.Codes.{per, trailing}
 use Rattle.codes.specs.Refusals.{Test, answer, first, viewTests}
 use Rattle.codes.specs.declared.refusals.Outcome.{Outcome}
 use Rattle.codes.specs.declared.refusals.Outcome.the-variants.{Done, Refused}
 use Rattle.codes.specs.declared.refusals.Refusal.{Refusal}
 use Rattle.codes.proofs.OutcomeLaws.{answer-refused}
+use Rattle.codes.proofs.RefusalLaws.{both}
 use Rattle.forms.specs.Forms.{badTracks, formSize, writeTests}
 
 -- k tests do not hold, and the next one does, if there is one
@@ -64,12 +65,7 @@ pub tracks-right : (m n : ℕ) → m ≡ n → m ≤ 2 ^ 29 → badTracks m n .0
 tracks-right m n e h = rw (eq-eqb m n e, le-leb m (2 ^ 29) h)
 
 tracks-of : (m n : ℕ) → badTracks m n .0 ≡ false → (m ≡ n) × (m ≤ 2 ^ 29)
-tracks-of m n e = (eqb-true m n (both (eqb m n) (leb m (2 ^ 29)) e .0), leb-true m (2 ^ 29) (both (eqb m n) (leb m (2 ^ 29)) e .1))
-  where
-    both : (a b : Bool) → not (a && b) ≡ false → (a ≡ true) × (b ≡ true)
-    both true true e = (refl, refl)
-    both true false e = let z : _≡_ {A = ℕ} 0 1 = cc in absurd (omega arith)
-    both false b e = let z : _≡_ {A = ℕ} 0 1 = cc in absurd (omega arith)
+tracks-of m n e = let t = both (eqb m n) (leb m (2 ^ 29)) (not-false _ e) in (eqb-true m n (t .0), leb-true m (2 ^ 29) (t .1))
 
 -- what holds where writing is not refused
 pub record Writable (m ao al n bo bl room : ℕ) : Type 0 where

@@ -1,6 +1,6 @@
 -- What holds of bytes that are a form, and where reading is not refused.
 -- Assumes nothing.
-use mathlib.Core.Bool.{Bool, true, false, _&&_}
+use mathlib.Core.Bool.{true}
 use mathlib.Core.List.{List}
 use mathlib.Core.Option.{Option, some, none}
 use mathlib.Core.Path.{_≡_, refl, sym, ap, ap₂, _∙_}
@@ -15,7 +15,7 @@ use Rattle.codes.specs.Codes.{up, trailing}
 use Rattle.codes.specs.Refusals.{answer, first}
 use Rattle.codes.specs.declared.refusals.Outcome.{Outcome}
 use Rattle.codes.specs.declared.refusals.Outcome.the-variants.{Done}
-use Rattle.codes.proofs.RefusalLaws.{answer-outcome, answer-values}
+use Rattle.codes.proofs.RefusalLaws.{answer-outcome, answer-values, both}
 use Rattle.forms.specs.Reading.{headOf, bodyOf, isForm, formLength, baseBytes, flagBytes, rightTracks, spareClear, readTests}
 use Rattle.forms.specs.Numbers.{Spelling}
 use Rattle.forms.proofs.FormLaws.{isForm-none, isForm-some, formLength-is}
@@ -30,10 +30,6 @@ pub record Form (bs : List ℕ) : Type 0 where
   pub whole : length bs ≡ suc (read .size) + (up 2 (read .value) + up 1 (read .value))
   pub base-clear : spareClear 2 (read .value) (take (up 2 (read .value)) (drop (suc (read .size)) bs)) ≡ true
   pub flag-clear : spareClear 1 (read .value) (drop (suc (read .size) + up 2 (read .value)) bs) ≡ true
-
-both : (a b : Bool) → (a && b) ≡ true → (a ≡ true) × (b ≡ true)
-both true b e = (refl, e)
-both false b e = let z : _≡_ {A = ℕ} 0 1 = cc in absurd (omega arith)
 
 pub form-of : (bs : List ℕ) → isForm bs ≡ true → Form bs
 form-of bs e = by (headOf bs) refl

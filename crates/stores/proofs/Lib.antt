@@ -10,3 +10,4 @@ pub mod Decided
 pub mod Called
 pub mod Viewed
 pub mod Lowest
+pub mod Rna

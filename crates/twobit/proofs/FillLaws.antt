@@ -16,13 +16,13 @@ use Rattle.codes.proofs.CharLaws.{charAt-at, byte-charAt, length-pack, charAt-p
 use Rattle.codes.proofs.MadeLaws.{made-is}
 use Rattle.codes.proofs.TabLaws.{length-tab, getD-tab, tab-ext, tab-append, Below-tab, Below-getD}
 use Rattle.codes.proofs.WidthLaws.{width-1, per-pos, up-hi, up-above, below-or}
+use Rattle.codes.proofs.RefusalLaws.{both}
 use Rattle.dna.specs.Dna.{baseAt, basesAt}
 use Rattle.dna.specs.Flags.{Marked}
 use Rattle.fields.specs.Runs.{Run}
 use Rattle.forms.specs.Reading.{filledWith}
 use Rattle.twobit.specs.Blocks.{end, blocksFrom, allInside, under, flagUnder}
 use Rattle.twobit.specs.Reading.{blockCount, blockAt, blocksAt}
-use Rattle.twobit.proofs.PickLaws.{both}
 
 -- positions behind the sequence lie under no block
 under-outside : (size q : ℕ) (bs : List Run) → allInside size bs ≡ true → size ≤ q → under bs q ≡ false

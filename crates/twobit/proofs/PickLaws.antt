@@ -1,6 +1,6 @@
 -- What is found where a test holds: something, else nothing; and what that tells of the test.
 -- Assumes nothing.
-use mathlib.Core.Bool.{Bool, true, false, _&&_, true≢false}
+use mathlib.Core.Bool.{Bool, true, false, _&&_}
 use mathlib.Core.Option.{Option, some, none}
 use mathlib.Core.Path.{_≡_, refl, sym, ap, _∙_}
 use Prim.Native.Nat.{ℕ, _≤_, _<_}
@@ -51,8 +51,3 @@ some-test false x y e = ap isSome e
 pub some-value : {A : Type 0} (t : Bool) (x y : A) → pick t (some x) none ≡ some y → y ≡ x
 some-value true x y e = sym (ap (valueOr x) e)
 some-value false x y e = sym (ap (valueOr x) e)
-
--- both of two tests hold
-pub both : (a b : Bool) → (a && b) ≡ true → (a ≡ true) × (b ≡ true)
-both true b e = (refl, e)
-both false b e = absurd (true≢false (sym e))

@@ -15,7 +15,7 @@ use Rattle.codes.specs.Words.{packed}
 use Rattle.codes.specs.declared.refusals.Outcome.the-variants.{Done, Refused}
 use Rattle.codes.specs.declared.refusals.Refusal.the-variants.{TooLong, BadForm, NoRoom}
 use Rattle.codes.proofs.OutcomeLaws.{answer-done}
-use Rattle.codes.proofs.RefusalLaws.{answer-outcome, answer-values}
+use Rattle.codes.proofs.RefusalLaws.{answer-outcome, answer-values, both}
 use Rattle.codes.proofs.WidthLaws.{width-2, up-hi}
 use Rattle.dna.specs.Dna.{basesAt}
 use Rattle.forms.specs.Reading.{filledWith}
@@ -23,7 +23,7 @@ use Rattle.forms.proofs.OutcomeLaws.{first-at, first-none, answer-at}
 use Rattle.twobit.specs.Blocks.{allInside, flagUnder}
 use Rattle.twobit.specs.Inner.{Places, partsOf, Held, noneHeld, heldAt}
 use Rattle.twobit.specs.Reading.{blockCount, blocksEnd, blocksAt, sizeAt, masksPlace, dnaPlace, isRecord, isBig, goodHeader, flagsOf, basesOf, recordTests}
-use Rattle.twobit.proofs.PickLaws.{and-false, none-test, some-test, some-value, both}
+use Rattle.twobit.proofs.PickLaws.{and-false, none-test, some-test, some-value}
 use Rattle.twobit.proofs.EntryLaws.{headerFound, Headed, header-bad}
 use Rattle.twobit.proofs.FillLaws.{bases-filled}
 use Rattle.twobit.proofs.RecordLaws.{recordFound, blocks-front}

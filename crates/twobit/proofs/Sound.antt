@@ -11,10 +11,10 @@ use lib.ListN.{length}
 use Rattle.codes.specs.Codes.{up, trailing}
 use Rattle.codes.specs.Refusals.{answer, first}
 use Rattle.codes.specs.declared.refusals.Outcome.the-variants.{Done}
+use Rattle.codes.proofs.RefusalLaws.{both}
 use Rattle.twobit.specs.Files.{headerSize, offsetSize}
 use Rattle.twobit.specs.Reading.{goodHeader, isBig, sequences, sizeAt, blocksEnd, dnaPlace, isRecord, entryEnd, offsetAt, areEntries, isTwoBit, badForm}
 use Rattle.twobit.specs.Reading.{checkAnswer, firstAnswer, entryOutcome, recordOutcome}
-use Rattle.twobit.proofs.PickLaws.{both}
 
 -- ---- check: done just where the file is sound
 

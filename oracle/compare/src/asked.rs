@@ -21,6 +21,8 @@ pub fn short() {
     short_pairs::<1>(5);
     short_stores::<2>();
     short_stores::<1>();
+    short_rna::<2>();
+    short_rna::<1>();
     short_streams::<2>();
     short_streams::<1>();
     short_windows();
@@ -261,6 +263,22 @@ where
             store(255).cut(m);
         }
         store(17).clear();
+    }
+}
+
+/// Letters with U and u at every place of a byte.
+fn short_rna<const B: usize>()
+where
+    Bits<B>: SupportedBits,
+{
+    let c8 = per(B);
+    for list in lists(5, 4) {
+        let letters: Vec<u8> = list.iter().map(|&kind| b"ATUuN"[kind as usize]).collect();
+        for place in 0..c8 {
+            let store = |len| Store::<B>::new(BEHIND + 3, 90, len);
+            store(place).push_ascii(&letters);
+            store(2 * c8).overwrite(place, &letters);
+        }
     }
 }
 

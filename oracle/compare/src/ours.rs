@@ -231,9 +231,9 @@ impl Ours {
         self.first.len() + self.second.len() + self.out.len()
     }
 
-    /// How many letters the first buffer holds.
-    pub fn letters(&self) -> usize {
-        self.first.len()
+    /// The letters that a call takes: those of the first buffer.
+    pub fn letters(&self) -> &[u8] {
+        &self.first
     }
 
     pub fn answer(&mut self, numbers: &[usize]) -> Vec<u64> {

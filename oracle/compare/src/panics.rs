@@ -25,7 +25,7 @@ pub fn compare(tally: &mut Tally) {
             told,
         );
     };
-    for byte in (0..=255).filter(|byte| !b"ACGTacgt".contains(byte)) {
+    for byte in (0..=255).filter(|byte| !b"ACGTUacgtu".contains(byte)) {
         let ours = letters::pack_char(byte).err();
         both(format!("pack_char({byte})"), ours, 6, &|| {
             hold(pack_char(byte))

@@ -89,7 +89,7 @@ impl Tally {
         let all = [&given[..], &given[..2], &[given[0], equal.into()]];
         let names = ["order, cmp_lcp", "order, cmp", "order, =="];
         for ((name, given), answer) in names.into_iter().zip(all).zip(answers) {
-            let with = with(numbers, answer[0] != 0, 0);
+            let with = with(numbers, answer[0] != 0, &[]);
             self.compare(name, with, given == answer, size, || {
                 told(ours, numbers, answer, given)
             });
@@ -144,15 +144,20 @@ fn told(before: &Ours, numbers: &[usize], answer: &[u64], given: &[u64]) -> Stri
 }
 
 /// What a case's answer is taken from, as the heads of `oracle::cases` say.
-fn with(numbers: &[usize], refused: bool, letters: usize) -> With {
+fn with(numbers: &[usize], refused: bool, letters: &[u8]) -> With {
+    let has_u = |letters: &[u8]| letters.iter().any(|letter| b"Uu".contains(letter));
     match numbers[0] {
+        // U and u, of which T is asked
+        10 if has_u(&[numbers[1] as u8]) => With::Parts,
         // its lossy code and its flag, for every byte
         10 => With::Original,
         _ if refused => With::Rules,
         // the word of an empty view
         34 | 35 if numbers[3] == 0 => With::Rules,
         // a push of nothing
-        51 if letters == 0 => With::Rules,
+        51 if letters.is_empty() => With::Rules,
+        // flags with U, of which T is asked
+        51 if numbers[1] == 1 && has_u(letters) => With::Parts,
         // find, least, clear, overwrite, cut
         43 | 44 | 50 | 53 | 54 => With::Parts,
         _ => With::Original,

@@ -1,14 +1,14 @@
-//! Shows the differences between the original and document 01, each on a small input.
+//! Shows the differences between the original and the rules, each on a small input.
 //!
-//! One line each, tabs between the columns: name, input, what the original does in this build, what 01 says. The input
+//! One line each, tabs between the columns: name, input, what the original does in this build, what the rules say. The input
 //! is the expression that is run, in the words of the functions below. Debug and release builds differ where sums and
 //! shifts overflow and where only a debug assertion guards: run both. The line about a dirty tail differs also in a
 //! build with AVX2.
 
 use oracle::packed_seq::{
-    BitSeq, Bits, PackedSeq, PackedSeqBase, PackedSeqVecBase, SupportedBits, complement_base,
-    inside, pack_kmer_lossy, pack_kmer_u128_lossy, rev_u64, rev_u128, revcomp_u64, revcomp_u128,
-    unpack_kmer_to_vec, unpack_kmer_u128_to_vec,
+    BitSeq, BitSeqVec, Bits, PackedSeq, PackedSeqBase, PackedSeqVecBase, SupportedBits,
+    char_is_ambiguous, complement_base, inside, pack_char, pack_kmer_lossy, pack_kmer_u128_lossy,
+    rev_u64, rev_u128, revcomp_u64, revcomp_u128, unpack_kmer_to_vec, unpack_kmer_u128_to_vec,
 };
 use oracle::{ChunkIt, Delay, PaddedIt, Seq, SeqVec, u32x8};
 use std::fmt::Debug;
@@ -22,7 +22,7 @@ fn main() {
     } else {
         "release"
     };
-    println!("difference\tinput\toriginal, {build} build\tdocument 01");
+    println!("difference\tinput\toriginal, {build} build\tthe rules");
     codes();
     bounds();
     words();
@@ -114,7 +114,26 @@ fn windows(view: BitSeq, k: usize, context: usize) -> PaddedIt<impl ChunkIt<u32x
     view.par_iter_kmer_ambiguity(k, context, 0)
 }
 
+/// The flags of a text.
+fn flags_of(text: &str) -> BitSeqVec {
+    let mut store = PackedSeqVecBase::default();
+    store.push_ascii(text.as_bytes());
+    store
+}
+
 fn codes() {
+    let name = "U is ambiguous";
+    difference!(name, pack_char(b'U'), "2");
+    difference!(name, pack_char(b'u'), "2");
+    difference!(name, char_is_ambiguous(b'U'), "0");
+    difference!(name, char_is_ambiguous(b'u'), "0");
+    difference!(name, inside::bytes(&flags_of("AUuN"))[0], "8");
+    difference!(
+        name,
+        lane_0(windows(flags_of("AU").as_slice(), 2, 2), 1),
+        "0"
+    );
+
     let name = "a code above 3 is complemented";
     difference!(name, complement_base(4), "refused 6");
 

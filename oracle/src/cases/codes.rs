@@ -1,6 +1,8 @@
-//! Letters and words. Where BAD_WORD (5) and NO_ROOM (9) both apply, 5 is given, as 01 orders them.
+//! Letters and words. For the strict code and the flag of U and u the original, which refuses and flags them, is asked with
+//! T and t. Where BAD_WORD (5) and NO_ROOM (9) both apply, 5 is given, as 01 orders them.
 
 use super::lines::{HUGE, case, first, halves, out, split, with_bytes};
+use super::original::with_t;
 use super::refusals::{answer, bad_letter, bad_word, no_room, number};
 use crate::packed_seq::{
     char_is_ambiguous, complement_base, complement_char, pack_char, pack_char_lossy,
@@ -26,11 +28,14 @@ pub fn print() {
 
 fn letters() {
     for b in 0..=255 {
-        let strict = [bad_letter(!b"ACGTacgt".contains(&b))];
+        let strict = [bad_letter(!b"ACGTUacgtu".contains(&b))];
         let capital = [bad_letter(!b"ACGT".contains(&b))];
         let numbers = [
-            answer(&strict, || [pack_char(b)]),
-            vec![pack_char_lossy(b).into(), char_is_ambiguous(b).into()],
+            answer(&strict, || [pack_char(with_t(b))]),
+            vec![
+                pack_char_lossy(b).into(),
+                char_is_ambiguous(with_t(b)).into(),
+            ],
             answer(&capital, || [complement_char(b)]),
         ];
         case(&[10, b.into()], &numbers.concat());

@@ -32,6 +32,16 @@ where
     store
 }
 
+/// The letter by which the original is asked for this one's strict code and flag: it refuses and flags U and u, which count
+/// as T by the rules.
+pub fn with_t(letter: u8) -> u8 {
+    match letter {
+        b'U' => b'T',
+        b'u' => b't',
+        other => other,
+    }
+}
+
 /// The bytes of a view without stray bits: zeros below its offset and behind its end.
 pub fn clean(w: usize, chars: &[u8], offset: usize) -> Vec<u8> {
     let mut bytes = vec![0; up(w, offset + chars.len()) + BEHIND];

@@ -52,7 +52,7 @@ pub fn reversed(w: usize, chars: &[u8]) -> Vec<u8> {
 /// The lossy code of a letter, or its flag.
 pub fn code(w: usize, letter: u8) -> u8 {
     match w {
-        1 => !b"ACGTacgt".contains(&letter) as u8,
+        1 => !b"ACGTUacgtu".contains(&letter) as u8,
         _ => letter / 2 % 4,
     }
 }

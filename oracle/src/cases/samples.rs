@@ -37,7 +37,7 @@ impl Dice {
         (0..n).map(|_| self.below(256) as u8).collect()
     }
 
-    /// Letters, one in four another byte than the eight letters.
+    /// Letters, three in sixteen ambiguous.
     pub fn letters(&mut self, n: usize) -> Vec<u8> {
         let letters = b"ACGTacgtACGTNnU-";
         (0..n).map(|_| letters[self.below(16)]).collect()

@@ -1,5 +1,5 @@
-//! Which calls are made on stores: histories from a clear on, each alignment on a buffer of stray bits, and both sides of
-//! each refusal.
+//! Which calls are made on stores: histories from a clear on, each alignment on a buffer of stray bits, both sides of
+//! each refusal, and letters of RNA.
 
 use super::lines::HUGE;
 use super::plain::per;
@@ -21,6 +21,8 @@ pub fn print() {
     rooms::<1>();
     edges::<2>();
     edges::<1>();
+    rna::<2>();
+    rna::<1>();
 }
 
 /// A run of calls on one buffer. It is so small that pushes fail for want of room.
@@ -151,4 +153,26 @@ where
     store.overwrite(c8, b"");
     store.overwrite(c8 + 1, b"");
     store.overwrite(HUGE, &[b'N'; 100]);
+}
+
+/// U and u at each place of a byte, alone and among letters that are clear or ambiguous.
+fn rna<const B: usize>()
+where
+    Bits<B>: SupportedBits,
+{
+    let c8 = per(B);
+    let store = |len| Store::<B>::new(BEHIND + 4, 90, len);
+    for u in *b"Uu" {
+        for place in 0..c8 {
+            store(place).push_ascii(&[u]);
+            store(2 * c8).overwrite(place, &[u]);
+            for other in *b"AN" {
+                let mut letters = vec![other; 2 * c8];
+                letters[c8 + place] = u;
+                store(0).push_ascii(&letters);
+                store(3).push_ascii(&letters);
+                store(2 * c8).overwrite(0, &letters);
+            }
+        }
+    }
 }

@@ -1,12 +1,13 @@
 //! Calls on a store: the third buffer and a length. Letters and views come from the first buffer.
 //!
 //! The buffer after a call is the plain reading's. Its sequence and the 48 zeros are asserted to be the original's, in
-//! ways on which that is right: the store's characters packed afresh, then the call itself; push_seq of the view's
-//! characters alone, normalised, zeros around them. For clear the original's is a new store. A cut store, and an
-//! overwritten one as far as its characters go (overwriting leaves stray bits), is one packed afresh.
+//! ways on which that is right: the store's characters packed afresh, then the call itself, at width 1 with T for U in its
+//! letters; push_seq of the view's characters alone, normalised, zeros around them. For clear the original's is a new
+//! store. A cut store, and an overwritten one as far as its characters go (overwriting leaves stray bits), is one packed
+//! afresh.
 
 use super::lines::{case, first, out, with_bytes};
-use super::original::{afresh, characters, clean, view};
+use super::original::{afresh, characters, clean, view, with_t};
 use super::plain::{self, per, up};
 use super::refusals::{BEHIND, bad_range, bad_store, bad_view, no_room, number};
 use crate::SeqVec;
@@ -69,7 +70,11 @@ where
             let codes: Vec<u8> = letters.iter().map(|&l| plain::code(B, l)).collect();
             plain::write_from(B, &mut self.bytes, len, &codes);
             self.len = end;
-            assert_eq!(original.push_ascii(letters), len..end);
+            let asked = match B {
+                1 => letters.iter().copied().map(with_t).collect(),
+                _ => letters.to_vec(),
+            };
+            assert_eq!(original.push_ascii(&asked), len..end);
             self.agrees(&original);
             answer = [len, end, end];
         }
