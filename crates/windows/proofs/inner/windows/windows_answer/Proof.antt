@@ -10,11 +10,11 @@ use Rattle.codes.specs.declared.refusals.Outcome.the-variants.{Done}
 use Rattle.codes.specs.declared.refusals.Refusal.the-variants.{BadStream, NoRoom}
 use Rattle.codes.proofs.WidthLaws.{width-1}
 use Rattle.codes.proofs.OutcomeLaws.{first-refused, answer-done, answer-refused}
+use Rattle.codes.proofs.TestLaws.{first-behind}
 use Rattle.lanes.specs.Lanes.{padding, steps}
 use Rattle.windows.specs.Windows.{badSkip, windowTests, windowsOutcome, windowsAnswer}
 use Rattle.lanes.proofs.LaneLaws.{stream-sizes}
 use Rattle.windows.proofs.RunLaws.{Windowed, window-open}
-use Rattle.lanes.proofs.ShapeLaws.{first-of-two, second-of-two, none-of-two}
 use borrow.Author.Needs.{needs}
 use Rattle.windows.proofs.inner.windows.windows_answer.Statement.{statement}
 use Rattle.windows.proofs.inner.windows.windows_answer.Tie as tie
@@ -28,7 +28,7 @@ enum-known-refusal c = search needs
 enum-told : tie.Need-enum-told
 enum-told c = search needs
 
--- the tests, of the windows, the skip and the room; and the answer
+-- the windows' tests, those of the skip and the room, and the answer
 module _ (s : tie.Start) where
   abbrev tests : List Test
   tests = windowTests (s .args .bytes .now) (s .args .offset .0) (s .args .len .0) (s .args .context .0) (s .args .k .0)
@@ -36,11 +36,8 @@ module _ (s : tie.Start) where
   abbrev many : ℕ
   many = steps 1 (s .args .len .0) (s .args .context .0) 1
 
-  abbrev skips : Test
-  skips = badSkip many (s .args .skip)
-
-  abbrev room : Test
-  room = noRoom (s .args .room) (8 * (many - s .args .skip))
+  abbrev own : List Test
+  own = badSkip many (s .args .skip) ∷ noRoom (s .args .room) (8 * (many - s .args .skip)) ∷ []
 
   abbrev given : ℕ × ℕ
   given = (many - s .args .skip, padding 1 (s .args .len .0) (s .args .context .0) 1)
@@ -65,7 +62,7 @@ returns c =
     let p = c .before .before in
     let k = p .before in
     let o = s k in
-    let e = first-of-two (tests o) (done k) (skips o) (room o) (lt-ltb (many o) (o .args .skip) (omega (arith, p .plan-of .ensures .steps))) in
+    let e = first-behind (tests o) (own o) (done k) 0 (lt-ltb (many o) (o .args .skip) (omega (arith, p .plan-of .ensures .steps))) in
     answer-refused _ BadStream (given o) (0, 0) (sym e)
 
 mul-if2 : tie.Need-mul-if2
@@ -84,7 +81,7 @@ returns-2 c =
     let o = s k in
     let q = p .plan-of .ensures .steps in
     let h = le-ltb (many o) (o .args .skip) (omega arith) in
-    let e = second-of-two (tests o) (done k) (skips o) (room o) h (lt-ltb (o .args .room) (8 * (many o - o .args .skip)) (omega arith)) in
+    let e = first-behind (tests o) (own o) (done k) 1 (h, lt-ltb (o .args .room) (8 * (many o - o .args .skip)) (omega arith)) in
     answer-refused _ NoRoom (given o) (0, 0) (sym e)
 
 new-requires : tie.Need-new-requires
@@ -96,7 +93,7 @@ returns-3 c =
     let f = c .before .before .before in
     let o = f .before .before in
     let x = c .before .refusal .given in
-    answer-refused _ (x .0 .0) (given o) (0, 0) (first-refused (tests o) (skips o ∷ room o ∷ []) (x .0 .0) (sym (f .window-outcome .ensures) ∙ x .1))
+    answer-refused _ (x .0 .0) (given o) (0, 0) (first-refused (tests o) (own o) (x .0 .0) (sym (f .window-outcome .ensures) ∙ x .1))
 
 returns-4 : tie.Need-returns-4
 unfolding windowsAnswer windowsOutcome
@@ -106,7 +103,7 @@ returns-4 c =
     let o = s k in
     let q = p .plan-of .ensures .steps in
     let h = le-ltb (many o) (o .args .skip) (omega arith) in
-    let e = none-of-two (tests o) (done k) (skips o) (room o) h (le-ltb (o .args .room) (8 * (many o - o .args .skip)) (omega arith)) in
+    let e = first-behind (tests o) (own o) (done k) 2 (h, (le-ltb (o .args .room) (8 * (many o - o .args .skip)) (omega arith), tt)) in
     answer-done _ (p .plan-of .result .steps - o .args .skip, c .new .result .0) (given o) (0, 0) (sym e) (rw (c .new .ensures, q, p .plan-of .ensures .padding))
 
 pub windows-answer-spec : {M : Type 1} → statement M
