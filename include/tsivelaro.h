@@ -15,11 +15,11 @@
  *               outside the view matter to any number, character or written byte.
  *   Stores      A buffer and a length in characters, the 48 bytes behind included: TSIV_BASES_ROOM(n), TSIV_FLAGS_ROOM(n).
  *   Answer      The refusal number: 0 where the call is done, else the lowest of the numbers named whose condition holds, never
- *               another. Refused, every number behind a pointer is 0, but for a store's length and the state of a .2bit file
- *               that is being written, which stay what they were, and not one byte of a buffer changes. Numbers are what a
- *               call gives through a pointer without a size, the eight entries of an array [8] among them; buffers are what
- *               comes with a size. Where a condition names an answer, as in NO_ROOM for a buffer under TSIV_BASES_ROOM(*end),
- *               it is the value that the call would have given.
+ *               another. There is one exception: PARTIAL, 10, is given before NO_ROOM, 9. Refused, every number behind a
+ *               pointer is 0, but for a store's length and the state of a .2bit file that is being written, which stay what
+ *               they were, and not one byte of a buffer changes. Numbers are what a call gives through a pointer without a
+ *               size, the eight entries of an array [8] among them; buffers are what comes with a size. Where a condition names
+ *               an answer, as in NO_ROOM for a buffer under TSIV_BASES_ROOM(*end), it is the value that the call would have given.
  *   Pointers    Read or written during the call alone. Buffers of bytes have any alignment, all else its type's own. No two of
  *               a call's pointers may overlap, unless both are only read. A buffer of size 0 may be NULL; no other pointer may.
  *   Threads     No global state, no allocation, no system call, and of the C library memset alone. Any number of threads may
@@ -73,7 +73,8 @@ enum {
     TSIV_BAD_LETTER = 6, /* a byte that is no such letter; a code above 3 */
     TSIV_BAD_FORM = 7,   /* bytes that are no stored form, or no .2bit file */
     TSIV_BAD_STREAM = 8, /* stream numbers outside their ranges */
-    TSIV_NO_ROOM = 9     /* an output buffer is shorter than the answer needs; fewer entries than a store has blocks */
+    TSIV_NO_ROOM = 9,    /* an output buffer is shorter than the answer needs; fewer entries than a store has blocks */
+    TSIV_PARTIAL = 10    /* windows of k flags with a skip below k - 1 or a context below k; judged before NO_ROOM */
 };
 
 /* A refusal's name, as above without the prefix; "?" for a number that is none. */
@@ -90,6 +91,7 @@ static inline const char *tsiv_refusal_name(uint32_t number)
     case TSIV_BAD_FORM: return "BAD_FORM";
     case TSIV_BAD_STREAM: return "BAD_STREAM";
     case TSIV_NO_ROOM: return "NO_ROOM";
+    case TSIV_PARTIAL: return "PARTIAL";
     default: return "?";
     }
 }
@@ -363,9 +365,11 @@ TSIV_USE uint32_t tsiv_flags_step_delayed_2(const uint8_t *bytes, size_t bytes_s
                                             uint32_t lanes[8], uint32_t lanes1[8], uint32_t lanes2[8]);
 
 /*
- * Windows of k flags, factor 1: step j gives lane l 0xFFFFFFFF where a flag is set at a position of the view from
- * l n + max(0, j - k + 1) to l n + j, else 0. From step skip on they are written to entry 8 (j - skip) + l; *steps: how many steps.
- * TOO_LONG, BAD_VIEW; BAD_STREAM also for k outside 1 to 96 or skip above the steps; NO_ROOM.
+ * Windows of k flags, factor 1: step j gives lane l 0xFFFFFFFF where a flag is set at one of the k positions from l n + j - k + 1 to
+ * l n + j, those past the view being clear, else 0. From step skip on they are written to entry 8 (j - skip) + l; *steps: how many steps.
+ * TOO_LONG, BAD_VIEW; BAD_STREAM also for k outside 1 to 96 or skip above the steps; then PARTIAL, if there are steps, for skip below
+ * k - 1 or context below k; then NO_ROOM. With a context of at least k there are at least k + 7 steps, if any: a skip of k - 1 is taken,
+ * and with it entry 8 i + l is the window of the k positions from l n + i on, for each i below n.
  */
 TSIV_USE uint32_t tsiv_flags_fill_windows(const uint8_t *bytes, size_t bytes_size, size_t offset, size_t len,
                                           size_t context, size_t k, size_t skip, uint32_t *out, size_t out_size,
@@ -374,8 +378,9 @@ TSIV_USE uint32_t tsiv_flags_fill_windows(const uint8_t *bytes, size_t bytes_siz
 /*
  * The windows of one step. The state is eight lane counts and the step, all 0 at the start: it goes in, and the next one comes out, through
  * counts and *step. Each lane's entering flag is added to its count; the answer is whether that sum is above 0; the flag k - 1 positions
- * back is taken off. TOO_LONG, BAD_VIEW; BAD_STREAM also for a step at or past the steps, a count above k - 1, or a sum below the flag to
- * take off. Refused, answers, counts and *step are all 0.
+ * back is taken off. So step j below k - 1 answers for the positions from l n to l n + j; any context is taken. TOO_LONG, BAD_VIEW;
+ * BAD_STREAM also for a step at or past the steps, a count above k - 1, or a sum below the flag to take off. Refused, answers, counts and
+ * *step are all 0.
  */
 TSIV_USE uint32_t tsiv_flags_step_windows(const uint8_t *bytes, size_t bytes_size, size_t offset, size_t len,
                                           size_t context, size_t k, uint32_t counts[8], size_t *step,

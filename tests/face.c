@@ -24,11 +24,11 @@ static void versions_and_names(void)
 #if TSIV_VERSION < 0x00040000 || TSIV_VERSION >= 0x00050000
 #error "the version does not serve in #if"
 #endif
-    static const char *names[] = {"DONE",     "TOO_LONG",   "BAD_STORE", "BAD_VIEW",   "BAD_RANGE",
-                                  "BAD_WORD", "BAD_LETTER", "BAD_FORM",  "BAD_STREAM", "NO_ROOM"};
-    for (uint32_t i = 0; i < 10; i++)
+    static const char *names[] = {"DONE",       "TOO_LONG", "BAD_STORE",  "BAD_VIEW", "BAD_RANGE", "BAD_WORD",
+                                  "BAD_LETTER", "BAD_FORM", "BAD_STREAM", "NO_ROOM",  "PARTIAL"};
+    for (uint32_t i = 0; i < 11; i++)
         HOLD(strcmp(tsiv_refusal_name(i), names[i]) == 0);
-    HOLD(strcmp(tsiv_refusal_name(10), "?") == 0);
+    HOLD(TSIV_PARTIAL == 10 && strcmp(tsiv_refusal_name(11), "?") == 0);
 }
 
 static void rooms(void)
@@ -249,6 +249,33 @@ static void windows(void)
     HOLD(step == 0 && counts[3] == 0 && answers[0] == 0);
 }
 
+/* A skip below k - 1 and a context below k are refused: after BAD_STREAM, before NO_ROOM, and only where there are steps. */
+static void partial(void)
+{
+    uint8_t bytes[64] = {0x80, 0x01};
+    uint32_t out[72], counts[8] = {0}, answers[8];
+    size_t steps = 7, padding = 7, step = 0;
+    memset(out, 0x5A, sizeof out);
+#define FILL(len, context, k, skip, room)                                                                              \
+    tsiv_flags_fill_windows(bytes, 64, 0, len, context, k, skip, out, room, &steps, &padding)
+    /* length 16, context 2: lanes of 8 flags, so 9 steps */
+    HOLD(FILL(16, 2, 2, 0, 72) == TSIV_PARTIAL && steps + padding == 0);
+    HOLD(FILL(16, 2, 3, 2, 72) == TSIV_PARTIAL && FILL(16, 2, 3, 9, 72) == TSIV_PARTIAL);
+    HOLD(FILL(16, 2, 3, 10, 72) == TSIV_BAD_STREAM && FILL(16, 2, 2, 10, 72) == TSIV_BAD_STREAM);
+    HOLD(FILL(16, 2, 2, 0, 0) == TSIV_PARTIAL && FILL(16, 2, 2, 1, 63) == TSIV_NO_ROOM);
+    HOLD(out[0] == 0x5A5A5A5A && out[71] == out[0]);
+    HOLD(FILL(16, 2, 2, 1, 64) == TSIV_DONE && steps == 8 && padding == 49);
+    HOLD(out[0] == 0 && out[1] == 0xFFFFFFFF && out[48] == 0xFFFFFFFF && out[56] == 0xFFFFFFFF);
+    /* no steps: nothing can be partial */
+    HOLD(FILL(1, 2, 96, 0, 0) == TSIV_DONE && steps == 0 && padding == 0);
+    HOLD(FILL(1, 2, 96, 1, 0) == TSIV_BAD_STREAM);
+#undef FILL
+    /* stepping takes them, with a context below k too */
+    for (size_t j = 0; j < 8; j++)
+        HOLD(tsiv_flags_step_windows(bytes, 64, 0, 16, 1, 3, counts, &step, answers) == TSIV_DONE && step == j + 1);
+    HOLD(answers[0] == 0xFFFFFFFF && answers[1] == 0 && counts[0] == 1);
+}
+
 /* Entries beside a store of flags: what touches a block counts it, and nothing else mends a wrong entry. */
 static void counts(void)
 {
@@ -453,6 +480,7 @@ int main(void)
     rna();
     nulls();
     windows();
+    partial();
     counts();
     twobit();
     too_long();

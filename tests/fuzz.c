@@ -176,7 +176,7 @@ static struct {
 static uint32_t count(uint32_t no)
 {
     int i = 0;
-    if (no > 9)
+    if (no > TSIV_PARTIAL || (no == TSIV_PARTIAL && strcmp(asked, "flags_fill_windows")))
         fail("no such number");
     while (counted[i].name && strcmp(counted[i].name, asked))
         i++;
@@ -468,7 +468,7 @@ static void streams(size_t w)
     view(w, v->size, &o, &n);
     size_t c = below(3) ? 1 + below(9) : number(n), f = below(8) ? 1 + below(2) : number(3), j = number(n / 8 + c);
     size_t d = below(4) ? below(12) : number(20), e = below(4) ? d + below(9) : number(20);
-    size_t k = below(4) ? 1 + below(12) : number(96), skip = below(3) ? below(4) : number(20);
+    size_t k = below(4) ? 1 + below(12) : number(96), skip = below(3) ? k - below(4) : number(20);
 #define ENTRIES(b) entries(b), b->size / 4
 #define LANES(t) (t[0] | t[1] | t[2] | t[3] | t[4] | t[5] | t[6] | t[7])
     switch (below(w == 1 ? 9 : 7)) {
@@ -490,8 +490,12 @@ static void streams(size_t w)
     case 5: ZERO(BOTH(step_delayed, VIEW, c, f, d, j, l, p), LANES(l) | LANES(p)); break;
     case 6: ZERO(BOTH(step_delayed_2, VIEW, c, f, d, e, j, l, p, q), LANES(l) | LANES(p) | LANES(q)); break;
     case 7:
+        if (below(2))
+            c = k + below(3);
         ZERO(ASK(flags_fill_windows, VIEW, c, k, skip, ENTRIES(x), steps, padding), *steps | *padding);
         fx = no ? 0 : 32 * *steps;
+        if ((no >= TSIV_NO_ROOM || (!no && *steps + skip)) && (no == TSIV_PARTIAL) != (skip < k - 1 || c < k))
+            fail("partial windows");
         break;
     default:
         for (int i = 0; i < 8; i++)

@@ -1,6 +1,6 @@
 /*
- * Calls that are wrong on purpose, each over the right one (the linker's --wrap): tests/run-fuzz, tests/run-form, tests/run-counts and
- * tests/run-twobit link one at a time, and must find it.
+ * Calls that are wrong on purpose, each over the right one (the linker's --wrap): tests/run-fuzz, tests/run-form, tests/run-counts,
+ * tests/run-twobit and tests/run-windows link one at a time, and must find it.
  */
 #include <tsivelaro.h>
 
@@ -180,6 +180,27 @@ OVER(flags_count, const uint8_t *buffer, size_t size, size_t len, const uint16_t
     return no;
 }
 #endif
+#elif defined TAKES_A_CONTEXT_BELOW_K || defined WANTS_A_SKIP_OF_K || defined PARTIAL_WITH_NO_STEPS ||                 \
+    defined PARTIAL_BEFORE_BAD_STREAM || defined NO_ROOM_BEFORE_PARTIAL
+OVER(flags_fill_windows, const uint8_t *bytes, size_t size, size_t offset, size_t len, size_t context, size_t k,
+     size_t skip, uint32_t *out, size_t out_size, size_t *steps, size_t *padding)
+{
+    size_t lane, all, behind;
+    uint32_t no = REAL(flags_fill_windows)(bytes, size, offset, len, context, k, skip, out, out_size, steps, padding);
+    if (no == TSIV_BAD_VIEW || k < 1 || k > 96 || tsiv_flags_shape(len, context, 1, &lane, &all, &behind) != TSIV_DONE)
+        return no;
+#if defined TAKES_A_CONTEXT_BELOW_K
+    return no == TSIV_PARTIAL && skip >= k - 1 ? TSIV_DONE : no;
+#elif defined WANTS_A_SKIP_OF_K
+    return no == TSIV_DONE && all && skip < k ? TSIV_PARTIAL : no;
+#elif defined PARTIAL_WITH_NO_STEPS
+    return no == TSIV_DONE && !all && skip < k - 1 ? TSIV_PARTIAL : no;
+#elif defined PARTIAL_BEFORE_BAD_STREAM
+    return no == TSIV_BAD_STREAM && all && context < k ? TSIV_PARTIAL : no;
+#else
+    return no == TSIV_PARTIAL && out_size < TSIV_LANES_ROOM(all - skip) ? TSIV_NO_ROOM : no;
+#endif
+}
 #elif defined SPLITS_AT_A_BYTE
 /* A run of set flags ends with each byte of characters. */
 OVER(twobit_record_size, const uint8_t *flags, size_t flags_size, size_t flag_offset, size_t flag_len, size_t *size)

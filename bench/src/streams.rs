@@ -11,6 +11,8 @@ const CONTEXT: Chars = Chars(31);
 const LEN: Chars = Chars(LETTERS);
 const FIRST: usize = 10;
 const SECOND: usize = 20;
+/// The least that windows of so many flags take.
+const SKIP: usize = CONTEXT.0 - 1;
 
 type Buffers = [Vec<u32>; 3];
 
@@ -112,13 +114,13 @@ fn kept_3(all: PackedSeq, s: &mut State) -> usize {
 
 #[inline(never)]
 fn lent_windows(all: BitSeq, s: &mut State) -> usize {
-    let stream = all.par_iter_kmer_ambiguity_with_buf(CONTEXT.0, CONTEXT.0, 0, &mut s.ring);
+    let stream = all.par_iter_kmer_ambiguity_with_buf(CONTEXT.0, CONTEXT.0, SKIP, &mut s.ring);
     put(stream, &mut s.theirs)
 }
 
 #[inline(never)]
 fn kept_windows(all: BitSeq, s: &mut State) -> usize {
-    let stream = all.par_iter_kmer_ambiguity(CONTEXT.0, CONTEXT.0, 0);
+    let stream = all.par_iter_kmer_ambiguity(CONTEXT.0, CONTEXT.0, SKIP);
     put(stream, &mut s.theirs)
 }
 
@@ -155,12 +157,16 @@ fn windows(text: &[u8]) -> Result<(), Refusal> {
     let theirs = packed_by::<BitSeqVec>(text);
     let all = theirs.as_slice();
     let view = flags::View::new(inside::bytes(&theirs), Chars(0), LEN)?;
-    let shape = flags::shape(LEN, CONTEXT, 1)?;
+    let all_steps = flags::shape(LEN, CONTEXT, 1)?;
+    let shape = Shape {
+        steps: all_steps.steps - SKIP,
+        ..all_steps
+    };
     let row = |name: &str, original: fn(BitSeq, &mut State) -> usize| {
         job(
             name,
             State::new(shape),
-            |s| view.fill_windows(CONTEXT, CONTEXT, 0, &mut s.ours[0]),
+            |s| view.fill_windows(CONTEXT, CONTEXT, SKIP, &mut s.ours[0]),
             |s| original(all, s),
             same(shape),
         );

@@ -28,10 +28,12 @@ pub enum Refusal {
     BadStream = 8,
     /// An output buffer is shorter than the answer needs, or there are fewer entries than a store has blocks.
     NoRoom = 9,
+    /// Windows of k flags with a skip below k - 1 or a context below k.
+    Partial = 10,
 }
 
 impl Refusal {
-    const ALL: [Refusal; 9] = [
+    const ALL: [Refusal; 10] = [
         Refusal::TooLong,
         Refusal::BadStore,
         Refusal::BadView,
@@ -41,9 +43,10 @@ impl Refusal {
         Refusal::BadForm,
         Refusal::BadStream,
         Refusal::NoRoom,
+        Refusal::Partial,
     ];
 
-    /// Its number, 1 to 9.
+    /// Its number, 1 to 10.
     pub fn number(self) -> u32 {
         self as u32
     }
@@ -69,6 +72,7 @@ impl fmt::Display for Refusal {
             Refusal::BadForm => "BAD_FORM",
             Refusal::BadStream => "BAD_STREAM",
             Refusal::NoRoom => "NO_ROOM",
+            Refusal::Partial => "PARTIAL",
         })
     }
 }

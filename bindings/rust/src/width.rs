@@ -558,7 +558,22 @@ impl bases::View<'_> {
 }
 
 impl flags::View<'_> {
-    /// Windows of k flags from step `skip` on: all 32 bits set where one of them is set.
+    /// Windows of k flags from step `skip` on: all 32 bits set where one of them is set. A skip below k - 1 would give windows of fewer
+    /// flags, and a context below k leave out those that start at the end of a lane: both are refused.
+    ///
+    /// ```
+    /// use tsivelaro::{flags, Chars, Refusal};
+    ///
+    /// let (mut buffer, mut out) = ([0; 64], [0; 64]);
+    /// let mut store = flags::Store::clear(&mut buffer)?;
+    /// store.push_ascii(b"ACGTACGNACGTACGT")?;
+    /// let (view, k) = (store.view(), Chars(2));
+    /// assert_eq!(view.fill_windows(k, k, 0, &mut out), Err(Refusal::Partial));
+    /// assert_eq!(view.fill_windows(Chars(1), k, 1, &mut out), Err(Refusal::Partial));
+    /// assert_eq!(view.fill_windows(k, k, 1, &mut out)?.steps, 8);
+    /// assert_eq!([out[48], out[56]], [u32::MAX; 2]);
+    /// # Ok::<(), Refusal>(())
+    /// ```
     pub fn fill_windows(
         self,
         context: Chars,
@@ -590,7 +605,7 @@ impl flags::View<'_> {
         })
     }
 
-    /// The windows of the step that the state names, and the next state.
+    /// The windows of the step that the state names, and the next state. The first k - 1 steps have windows of fewer flags.
     pub fn step_windows(
         self,
         context: Chars,

@@ -1,6 +1,7 @@
 pub mod WidthLaws
 pub mod RefusalLaws
 pub mod OutcomeLaws
+pub mod TestLaws
 pub mod Lowest
 pub mod AnswerLaws
 pub mod CodeLaws

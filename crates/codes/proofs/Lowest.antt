@@ -5,15 +5,14 @@ use mathlib.Core.Bool.{Bool, true, false, _&&_}
 use mathlib.Core.List.{List, [], _∷_, List·Memᴰ, List·Memᴰ·head, List·Memᴰ·tail, List·Memᴰ·cases-cons, List·Memᴰ·not-nil}
 use mathlib.Core.Logic.{_⊎_, ⊎-elim}
 use mathlib.Core.Path.{_≡_, refl, sym, ap, _∙_, subst}
-use Prim.Native.Nat.{ℕ, _≤_}
+use Prim.Native.Nat.{ℕ, zero, suc, _≤_}
 use native.Mathlib.Nat.{le-trans}
 use native.Mathlib.Omega.{arith}
 use lib.Dec.{leb}
 use borrow.Author.Tests.{leb-true}
 use Rattle.codes.specs.Refusals.{Test, first, number, numberOf, badWord, badLetter, badCapital, badCode, noRoom}
-use Rattle.codes.specs.declared.refusals.Outcome.the-variants.{Refused}
+use Rattle.codes.specs.declared.refusals.Outcome.the-variants.{Done, Refused}
 use Rattle.codes.specs.declared.refusals.Refusal.{Refusal}
-use Rattle.codes.specs.declared.refusals.Refusal.the-variants.{TooLong, BadStore, BadView, BadRange, BadWord, BadLetter, BadForm, BadStream, NoRoom}
 use Rattle.codes.proofs.RefusalLaws.{both, outcomeAt, outcomeAt-number}
 
 -- the numbers of a list of tests do not descend, from n on
@@ -28,16 +27,16 @@ pub record Lowest (n : ℕ) (ts : List Test) : Type 0 where
   -- and a refusal's only where that refusal's test holds
   pub only : (r : Refusal) → n ≡ number r → List·Memᴰ (true, r) ts
 
+-- 0 is the number of no refusal
 number-pos : (r : Refusal) → 1 ≤ number r
-number-pos TooLong = omega arith
-number-pos BadStore = omega arith
-number-pos BadView = omega arith
-number-pos BadRange = omega arith
-number-pos BadWord = omega arith
-number-pos BadLetter = omega arith
-number-pos BadForm = omega arith
-number-pos BadStream = omega arith
-number-pos NoRoom = omega arith
+number-pos r = pos (number r) (λ e. let z = sym (outcomeAt-number (Refused r)) ∙ ap outcomeAt e ∙ outcomeAt-number Done in refused r z)
+  where
+    refused : (r : Refusal) → Refused r ≡ Done → ⊥
+    refused r e = let z : _≡_ {A = ℕ} 0 1 = cc in absurd (omega arith)
+
+    pos : (n : ℕ) → (n ≡ 0 → ⊥) → 1 ≤ n
+    pos zero h = absurd (h refl)
+    pos (suc n) h = omega arith
 
 -- no number is below the first
 at-least : (n : ℕ) (ts : List Test) → ascendingFrom n ts ≡ true → (t : Test) → List·Memᴰ t ts → n ≤ number (t .1)

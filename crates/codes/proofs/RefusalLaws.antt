@@ -8,7 +8,7 @@ use lib.Dec.{ltb}
 use lib.ListN.{getD}
 use borrow.Author.Tests.{le-ltb, ltb-false}
 use Rattle.codes.specs.Refusals.{Test, badWord, Answer, first, numberOf, answer}
-use Rattle.codes.specs.declared.refusals.Refusal.the-variants.{TooLong, BadStore, BadView, BadRange, BadWord, BadLetter, BadForm, BadStream, NoRoom}
+use Rattle.codes.specs.declared.refusals.Refusal.the-variants.{TooLong, BadStore, BadView, BadRange, BadWord, BadLetter, BadForm, BadStream, NoRoom, Partial}
 use Rattle.codes.specs.declared.refusals.Outcome.{Outcome}
 use Rattle.codes.specs.declared.refusals.Outcome.the-variants.{Done, Refused}
 
@@ -41,7 +41,8 @@ first-append ((true, r) ∷ ts) us = refl
 first-append ((false, r) ∷ ts) us = first-append ts us
 
 outcomes : List Outcome
-outcomes = Done ∷ Refused TooLong ∷ Refused BadStore ∷ Refused BadView ∷ Refused BadRange ∷ Refused BadWord ∷ Refused BadLetter ∷ Refused BadForm ∷ Refused BadStream ∷ Refused NoRoom ∷ []
+outcomes =
+    Done ∷ Refused TooLong ∷ Refused BadStore ∷ Refused BadView ∷ Refused BadRange ∷ Refused BadWord ∷ Refused BadLetter ∷ Refused BadForm ∷ Refused BadStream ∷ Refused NoRoom ∷ Refused Partial ∷ []
 
 -- the outcome of a number
 pub outcomeAt : ℕ → Outcome
@@ -60,6 +61,7 @@ outcomeAt-number (Refused BadLetter) = refl
 outcomeAt-number (Refused BadForm) = refl
 outcomeAt-number (Refused BadStream) = refl
 outcomeAt-number (Refused NoRoom) = refl
+outcomeAt-number (Refused Partial) = refl
 
 -- an answer tells its outcome, and what it gives where it is done
 pub answer-outcome : {A : Type 0} (o o′ : Outcome) (a a′ z z′ : A) → answer o a z ≡ answer o′ a′ z′ → o ≡ o′

@@ -6,7 +6,7 @@ use Prim.Native.Nat.{ℕ, _+_, _*_, _^_}
 use lib.Dec.{leb, ltb}
 use Rattle.codes.specs.Codes.{per, up, trailing, pick, strict, placeIn, capitals}
 use Rattle.codes.specs.declared.refusals.Refusal.{Refusal}
-use Rattle.codes.specs.declared.refusals.Refusal.the-variants.{TooLong, BadStore, BadView, BadRange, BadWord, BadLetter, BadForm, BadStream, NoRoom}
+use Rattle.codes.specs.declared.refusals.Refusal.the-variants.{TooLong, BadStore, BadView, BadRange, BadWord, BadLetter, BadForm, BadStream, NoRoom, Partial}
 use Rattle.codes.specs.declared.refusals.Outcome.{Outcome}
 use Rattle.codes.specs.declared.refusals.Outcome.the-variants.{Done, Refused}
 
@@ -20,6 +20,7 @@ number BadLetter = 6
 number BadForm = 7
 number BadStream = 8
 number NoRoom = 9
+number Partial = 10
 
 abbrev pub numberOf : Outcome → ℕ
 numberOf Done = 0

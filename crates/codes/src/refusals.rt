@@ -12,6 +12,7 @@ pub enum Refusal {
     BadForm,
     BadStream,
     NoRoom,
+    Partial,
 }
 
 // What a call that gives no other number answers.
@@ -34,6 +35,7 @@ impl Refusal {
             Refusal::BadForm => 7,
             Refusal::BadStream => 8,
             Refusal::NoRoom => 9,
+            Refusal::Partial => 10,
         }
     }
 }

@@ -19,7 +19,7 @@ use Rattle.codes.proofs.RefusalLaws.{answer-outcome, answer-values, both}
 use Rattle.forms.specs.Reading.{headOf, bodyOf, isForm, formLength, baseBytes, flagBytes, rightTracks, spareClear, readTests}
 use Rattle.forms.specs.Numbers.{Spelling}
 use Rattle.forms.proofs.FormLaws.{isForm-none, isForm-some, formLength-is}
-use Rattle.forms.proofs.OutcomeLaws.{first-none}
+use Rattle.codes.proofs.TestLaws.{first-none}
 
 -- ---- a form
 

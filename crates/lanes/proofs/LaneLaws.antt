@@ -12,15 +12,15 @@ use Rattle.codes.specs.Codes.{IsWidth, chars}
 use Rattle.codes.specs.Refusals.{first, viewTests}
 use Rattle.codes.specs.Words.{word}
 use Rattle.codes.specs.declared.refusals.Outcome.the-variants.{Done}
-use Rattle.codes.specs.declared.refusals.Refusal.the-variants.{BadStream}
 use Rattle.codes.proofs.CharLaws.{length-chars, getD-chars}
 use Rattle.codes.proofs.FieldLaws.{charAt-is}
 use Rattle.codes.proofs.WidthLaws.{below-or}
 use Rattle.codes.proofs.WordLaws.{Below}
 use Rattle.codes.proofs.OutcomeLaws.{first-both}
+use Rattle.codes.proofs.TestLaws.{first-behind, first-none}
 use Rattle.fields.proofs.LoadLaws.{view-bits}
 use Rattle.lanes.specs.Lanes.{lane, steps, badShape, badDelays, laneChar, streamTests}
-use Rattle.lanes.proofs.ShapeLaws.{Shaped, shaped-is, steps-none, steps-some, not-first, none-of-two}
+use Rattle.lanes.proofs.ShapeLaws.{Shaped, shaped-is, steps-none, steps-some}
 
 -- the tests of a stream, one by one
 pub record Open (w : ℕ) (bs : List ℕ) (o len c f d e : ℕ) : Type 0 where
@@ -36,7 +36,7 @@ stream-open w bs o len c f d e h =
 
 -- the plain stream is not refused where one with delays is not
 pub stream-plain : (w : ℕ) (bs : List ℕ) (o len c f d e : ℕ) → Open w bs o len c f d e → first (streamTests w bs o len c f 0 0) ≡ Done
-stream-plain w bs o len c f d e h = sym (none-of-two (viewTests w (length bs) o len) (h .view) (badShape c f) (badDelays 0 0) (not-first (badShape c f .0) BadStream (h .shape)) refl)
+stream-plain w bs o len c f d e h = sym (first-behind (viewTests w (length bs) o len) (badShape c f ∷ badDelays 0 0 ∷ []) (h .view) 2 (first-none (badShape c f ∷ []) (h .shape) .0, (refl, tt)))
 
 -- lanes and steps of a stream over a view
 pub record Sized (w len c f : ℕ) : Type 0 where

@@ -1,27 +1,20 @@
 -- The laws of a stream's numbers: their ranges where nothing is refused, and that no sum wraps.
 -- Assumes nothing.
-use mathlib.Core.Bool.{Bool, true, false, _||_}
-use mathlib.Core.List.{List, [], _∷_, _++_}
-use mathlib.Core.Path.{_≡_, refl, sym, ap, _∙_}
+use mathlib.Core.Bool.{_||_}
+use mathlib.Core.List.{[], _∷_}
+use mathlib.Core.Path.{_≡_}
 use Prim.Native.Nat.{ℕ, _+_, _-_, _*_, _/_, _%_, _^_, _≤_, _<_}
 use native.Mathlib.Nat.{lt-div-mul-add, div-mul-le-self, mul-le-mul, mul-pos}
 use native.Mathlib.Omega.{arith}
 use lib.Dec.{ltb}
 use borrow.Author.Tests.{ltb-false, lt-ltb, le-ltb}
-use Rattle.codes.specs.Codes.{per, pick, IsWidth}
-use Rattle.codes.specs.Refusals.{Test, first}
-use Rattle.codes.specs.declared.refusals.Outcome.the-variants.{Done, Refused}
-use Rattle.codes.specs.declared.refusals.Refusal.{Refusal}
-use Rattle.codes.specs.declared.refusals.Refusal.the-variants.{BadStream}
+use Rattle.codes.specs.Codes.{per, IsWidth}
+use Rattle.codes.specs.Refusals.{first}
+use Rattle.codes.specs.declared.refusals.Outcome.the-variants.{Done}
 use Rattle.codes.proofs.WidthLaws.{per-pos, per-le}
-use Rattle.codes.proofs.OutcomeLaws.{first-done}
+use Rattle.codes.proofs.TestLaws.{first-none}
 use Rattle.codes.proofs.RefusalLaws.{neither}
 use Rattle.lanes.specs.Lanes.{multipleAbove, starts, lane, padding, steps, badShape}
-
--- a test alone that does not hold
-pub not-first : (t : Bool) (r : Refusal) → first ((t, r) ∷ []) ≡ Done → t ≡ false
-not-first true r e = let z : _≡_ {A = ℕ} 0 1 = cc in absurd (omega arith)
-not-first false r e = refl
 
 pub multiple-low : (m n : ℕ) → 0 < m → n ≤ multipleAbove m n
 multiple-low m n h = omega (arith, lt-div-mul-add {a = n + (m - 1)} h)
@@ -43,7 +36,7 @@ group W f h l = (mul-pos h (per-pos W), mul-le-mul l (per-le W))
 
 pub shape-ranges : (c f : ℕ) → first (badShape c f ∷ []) ≡ Done → (1 ≤ c) × (c ≤ 2 ^ 31) × (1 ≤ f) × (f ≤ 2)
 shape-ranges c f e =
-    let x = neither (ltb c 1 || ltb (2 ^ 31) c || ltb f 1) (ltb 2 f) (not-first (ltb c 1 || ltb (2 ^ 31) c || ltb f 1 || ltb 2 f) BadStream e) in
+    let x = neither (ltb c 1 || ltb (2 ^ 31) c || ltb f 1) (ltb 2 f) (first-none (badShape c f ∷ []) e .0) in
     let y = neither (ltb c 1 || ltb (2 ^ 31) c) (ltb f 1) (x .0) in
     let z = neither (ltb c 1) (ltb (2 ^ 31) c) (y .0) in
     (ltb-false c 1 (z .0), ltb-false (2 ^ 31) c (z .1), ltb-false f 1 (y .1), ltb-false 2 f (x .1))
@@ -74,22 +67,3 @@ steps-none w len c f h = rw (lt-ltb len c h)
 pub steps-some : (w len c f : ℕ) → 1 ≤ c → c ≤ len → lane w len c f + (c - 1) ≡ steps w len c f
 unfolding steps
 steps-some w len c f l h = rw (le-ltb len c h) (omega arith)
-
--- two tests behind others that do not hold
-module _ (ts : List Test) (done : first ts ≡ Done) (s t : Test) where
-  pub first-of-two : s .0 ≡ true → Refused (s .1) ≡ first (ts ++ s ∷ t ∷ [])
-  first-of-two e = sym (ap (λ (b : Bool). pick b (Refused (s .1)) (first (t ∷ []))) e) ∙ sym (first-done ts (s ∷ t ∷ []) done)
-
-  pub second-of-two : s .0 ≡ false → t .0 ≡ true → Refused (t .1) ≡ first (ts ++ s ∷ t ∷ [])
-  second-of-two e g = sym (ap (λ (b : Bool). pick b (Refused (s .1)) (first (t ∷ []))) e ∙ ap (λ (b : Bool). pick b (Refused (t .1)) Done) g) ∙ sym (first-done ts (s ∷ t ∷ []) done)
-
-  pub none-of-two : s .0 ≡ false → t .0 ≡ false → Done ≡ first (ts ++ s ∷ t ∷ [])
-  none-of-two e g = sym (ap (λ (b : Bool). pick b (Refused (s .1)) (first (t ∷ []))) e ∙ ap (λ (b : Bool). pick b (Refused (t .1)) Done) g) ∙ sym (first-done ts (s ∷ t ∷ []) done)
-
--- one test behind others that do not hold
-module _ (ts : List Test) (done : first ts ≡ Done) (t : Test) where
-  pub first-of-one : t .0 ≡ true → Refused (t .1) ≡ first (ts ++ t ∷ [])
-  first-of-one e = sym (ap (λ (b : Bool). pick b (Refused (t .1)) Done) e) ∙ sym (first-done ts (t ∷ []) done)
-
-  pub none-of-one : t .0 ≡ false → Done ≡ first (ts ++ t ∷ [])
-  none-of-one e = sym (ap (λ (b : Bool). pick b (Refused (t .1)) Done) e) ∙ sym (first-done ts (t ∷ []) done)

@@ -4,23 +4,23 @@ use mathlib.Core.List.{List, [], _∷_}
 use mathlib.Core.Path.{_≡_, sym, ap, _∙_}
 use Prim.Native.Nat.{ℕ, _*_, _≤_, _<_, min}
 use native.Mathlib.Nat.{lt-of-le-of-lt, min-le-left, min-le-right, le-min}
-use lib.Dec.{ltb, leb}
+use lib.Dec.{ltb}
 use lib.ListN.{length}
 use borrow.Author.Tests.{lt-ltb, le-ltb, ltb-false, leb-false, lt-leb}
 use Rattle.codes.specs.Codes.{IsWidth}
 use Rattle.codes.specs.Refusals.{Test, first, noRoom}
 use Rattle.codes.specs.declared.refusals.Outcome.the-variants.{Done, Refused}
 use Rattle.codes.specs.declared.refusals.Outcome.{Outcome}
-use Rattle.codes.specs.declared.refusals.Refusal.the-variants.{BadStream, NoRoom}
+use Rattle.codes.specs.declared.refusals.Refusal.the-variants.{NoRoom}
 use Rattle.codes.proofs.RefusalLaws.{andThen, first-append, answer-outcome}
 use Rattle.codes.proofs.WidthLaws.{below-or}
 use Rattle.codes.proofs.OutcomeLaws.{passed, first-both}
+use Rattle.codes.proofs.TestLaws.{first-behind, first-none}
 use Rattle.lanes.specs.Lanes.{padding, steps, streamTests}
 use Rattle.streams.specs.Streams.{badStep, roomTests, stepOutcome, fillOutcome, fillAnswer}
 use Rattle.streams.specs.Answers.{filledSays}
 use Rattle.streams.specs.declared.answers.Filled.{Filled}
 use Rattle.streams.specs.declared.answers.Filled.the-variants as Filled
-use Rattle.lanes.proofs.ShapeLaws.{not-first, none-of-one}
 use Rattle.lanes.proofs.LaneLaws.{Open, stream-open, stream-plain, Sized, stream-sizes}
 
 -- the sizes of a stream that is not refused
@@ -65,13 +65,13 @@ module _ (w : ℕ) (bs : List ℕ) (o len c f d e : ℕ) where
   unfolding stepOutcome
   step-open j h =
       let a = first-both tests (badStep n j ∷ []) h in
-      (stream-open w bs o len c f d e (a .0), leb-false n j (not-first (leb n j) BadStream (a .1)))
+      (stream-open w bs o len c f d e (a .0), leb-false n j (first-none (badStep n j ∷ []) (a .1) .0))
 
   pub step-plain : (j : ℕ) → stepOutcome w bs o len c f d e j ≡ Done → stepOutcome w bs o len c f 0 0 j ≡ Done
   unfolding stepOutcome
   step-plain j h =
       let a = step-open j h in
-      sym (none-of-one (streamTests w bs o len c f 0 0) (stream-plain w bs o len c f d e (a .0)) (badStep n j) (lt-leb n j (a .1)))
+      sym (first-behind (streamTests w bs o len c f 0 0) (badStep n j ∷ []) (stream-plain w bs o len c f d e (a .0)) 1 (lt-leb n j (a .1), tt))
 
   -- a fill that is not refused
   pub fill-open : (ms : List ℕ) → fillOutcome w bs o len c f d e ms ≡ Done → Open w bs o len c f d e × Rooms (8 * n) ms

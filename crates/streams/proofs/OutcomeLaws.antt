@@ -11,8 +11,8 @@ use Rattle.codes.specs.declared.refusals.Refusal.{Refusal}
 use Rattle.codes.specs.declared.refusals.Refusal.the-variants.{BadStream, NoRoom}
 use Rattle.codes.specs.declared.units.Chars.{Chars}
 use Rattle.codes.proofs.OutcomeLaws.{first-refused, answer-done, answer-refused}
+use Rattle.codes.proofs.TestLaws.{first-behind}
 use Rattle.lanes.specs.Lanes.{padding, steps, streamTests}
-use Rattle.lanes.proofs.ShapeLaws.{first-of-one, none-of-one}
 use Rattle.lanes.proofs.LaneLaws.{Open, stream-open}
 use Rattle.streams.specs.Answers.{filledSays}
 use Rattle.streams.specs.Streams.{badStep, stepOutcome, fillAnswer, fillOutcome}
@@ -49,17 +49,17 @@ module _ {w : ℕ} {bs : List ℕ} {o len c f d e : ℕ} {u : Outcome} (h : Judg
 
     pub step-late : (j : ℕ) → n ≤ j → Refused BadStream ≡ stepOutcome w bs o len c f d e j
     unfolding stepOutcome
-    step-late j l = first-of-one tests done (badStep n j) (le-leb n j l)
+    step-late j l = first-behind tests (badStep n j ∷ []) done 0 (le-leb n j l)
 
     pub step-within : (j : ℕ) → j < n → Done ≡ stepOutcome w bs o len c f d e j
     unfolding stepOutcome
-    step-within j l = none-of-one tests done (badStep n j) (lt-leb n j l)
+    step-within j l = first-behind tests (badStep n j ∷ []) done 1 (lt-leb n j l, tt)
 
     pub fill-short : (m : ℕ) → m < 8 * n → filledSays (Filled.Refused NoRoom) ≡ fillAnswer w bs o len c f d e (m ∷ [])
     unfolding fillAnswer fillOutcome
-    fill-short m l = answer-refused _ NoRoom _ (0, 0) (sym (first-of-one tests done (noRoom m (8 * n)) (lt-ltb m (8 * n) l)))
+    fill-short m l = answer-refused _ NoRoom _ (0, 0) (sym (first-behind tests (noRoom m (8 * n) ∷ []) done 0 (lt-ltb m (8 * n) l)))
 
     pub fill-fits : (m s : ℕ) (p : Chars) → 8 * n ≤ m → s ≡ n → p .0 ≡ padding w len c f → filledSays (Filled.Is s p) ≡ fillAnswer w bs o len c f d e (m ∷ [])
     unfolding fillAnswer fillOutcome
     fill-fits m s p l es ep =
-        answer-done _ _ _ (0, 0) (sym (none-of-one tests done (noRoom m (8 * n)) (le-ltb m (8 * n) l))) (ap₂ (λ (x y : ℕ). (x, y)) es ep)
+        answer-done _ _ _ (0, 0) (sym (first-behind tests (noRoom m (8 * n) ∷ []) done 1 (le-ltb m (8 * n) l, tt))) (ap₂ (λ (x y : ℕ). (x, y)) es ep)

@@ -1,6 +1,6 @@
 -- Stepping and filling agree: what a step answers is what filling writes at its eight entries, with any delay.
 -- Assumes nothing.
-use mathlib.Core.List.{List, _++_}
+use mathlib.Core.List.{List, [], _∷_, _++_}
 use mathlib.Core.Path.{_≡_, sym, ap, ap₂, _∙_, subst}
 use Prim.Native.Nat.{ℕ, _+_, _*_, _/_, _%_, _<_}
 use native.Mathlib.Omega.{arith}
@@ -13,9 +13,9 @@ use Rattle.codes.specs.declared.refusals.Outcome.{Outcome}
 use Rattle.codes.specs.declared.refusals.Outcome.the-variants.{Done}
 use Rattle.codes.proofs.TabLaws.{length-tab, getD-tab, tab-ext}
 use Rattle.codes.proofs.OutcomeLaws.{first-both}
+use Rattle.codes.proofs.TestLaws.{first-behind}
 use Rattle.lanes.specs.Lanes.{lane, steps, laneChar, lanes, filled, streamTests}
 use Rattle.streams.specs.Streams.{badStep, roomTests, fillOutcome, fillAfter, stepOutcome, stepLanes}
-use Rattle.lanes.proofs.ShapeLaws.{none-of-one}
 
 -- eight entries of a table
 pub eight : (f : ℕ → ℕ) (m i : ℕ) (rest : List ℕ) → i < m → tab 8 (λ l. f (8 * i + l)) ≡ take 8 (drop (8 * i) (tab (8 * m) f ++ rest))
@@ -44,7 +44,7 @@ module _ (w : ℕ) (bs : List ℕ) (o len c f d e : ℕ) (ms : List ℕ) (done :
   step-accepted =
       let ts : List Test = streamTests w bs o len c f d e in
       let n : ℕ = steps w len c f in
-      sym (none-of-one ts (first-both ts (roomTests (8 * n) ms) done .0) (badStep n j) (lt-leb n j h))
+      sym (first-behind ts (badStep n j ∷ []) (first-both ts (roomTests (8 * n) ms) done .0) 1 (lt-leb n j h, tt))
 
   pub stepping : (g : ℕ) (out : List ℕ) → stepLanes w bs o len c f d e j g ≡ take 8 (drop (8 * j) (fillAfter w bs o len c f d e ms g out))
   unfolding stepLanes fillAfter lanes filled

@@ -13,7 +13,7 @@ use Rattle.codes.specs.Refusals.{Test, answer, first}
 use Rattle.codes.specs.declared.refusals.Outcome.the-variants.{Done, Refused}
 use Rattle.codes.specs.declared.refusals.Refusal.the-variants.{BadRange, BadForm}
 use Rattle.codes.proofs.OutcomeLaws.{answer-done}
-use Rattle.forms.proofs.OutcomeLaws.{first-at, answer-at}
+use Rattle.codes.proofs.TestLaws.{first-at, answer-at}
 use Rattle.twobit.specs.Inner.{entryFound}
 use Rattle.twobit.specs.Files.{headerSize, offsetSize}
 use Rattle.twobit.specs.Reading.{isBig, goodHeader, sequences, nameSize, offsetAt, entryEnd, areEntries, isTwoBit, badForm, checkAnswer, firstAnswer, Entered, noEntry, entryTests, entryAnswer}

@@ -19,7 +19,7 @@ use Rattle.codes.proofs.RefusalLaws.{answer-outcome, answer-values, both}
 use Rattle.codes.proofs.WidthLaws.{width-2, up-hi}
 use Rattle.dna.specs.Dna.{basesAt}
 use Rattle.forms.specs.Reading.{filledWith}
-use Rattle.forms.proofs.OutcomeLaws.{first-at, first-none, answer-at}
+use Rattle.codes.proofs.TestLaws.{first-at, first-none, answer-at}
 use Rattle.twobit.specs.Blocks.{allInside, flagUnder}
 use Rattle.twobit.specs.Inner.{Places, partsOf, Held, noneHeld, heldAt}
 use Rattle.twobit.specs.Reading.{blockCount, blocksEnd, blocksAt, sizeAt, masksPlace, dnaPlace, isRecord, isBig, goodHeader, flagsOf, basesOf, recordTests}

@@ -10,7 +10,7 @@ use lib.ListN.{length}
 use Rattle.codes.proofs.CharLaws.{length-chars, chars-fit}
 use Rattle.codes.proofs.Viewed.{view-passed}
 use Rattle.codes.proofs.WordLaws.{Below}
-use Rattle.forms.proofs.OutcomeLaws.{first-none}
+use Rattle.codes.proofs.TestLaws.{first-none}
 use Rattle.twobit.specs.Files.{Sequence, fileOf, offsetSize, headerSize, indexEnd, namesSize}
 use Rattle.twobit.specs.Reading.{isTwoBit, isBig, sequences}
 use Rattle.twobit.proofs.ReadBack.{Fit, AllFit, Near, Walks, accepted, counted, ordered-as, walked}

@@ -18,7 +18,7 @@ use Rattle.codes.specs.declared.refusals.Refusal.the-variants.{BadRange}
 use Rattle.codes.proofs.OutcomeLaws.{answer-done}
 use Rattle.codes.proofs.RefusalLaws.{answer-outcome, answer-values}
 use Rattle.codes.proofs.WidthLaws.{below-or}
-use Rattle.forms.proofs.OutcomeLaws.{Stops, refusedAt, first-at, answer-at, None, first-past, first-none}
+use Rattle.codes.proofs.TestLaws.{Stops, refusedAt, first-at, answer-at, None, first-past, first-none}
 use Rattle.twobit.specs.Answers.{sizedSays}
 use Rattle.twobit.specs.Files.{entrySize, recordSize}
 use Rattle.twowrite.specs.Writing.{writing, addTests, addOutcome, added, addAnswer, badState, unfinished, finishAnswer}

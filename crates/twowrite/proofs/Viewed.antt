@@ -9,7 +9,7 @@ use lib.Seq.{sets}
 use Rattle.codes.specs.Codes.{chars}
 use Rattle.codes.specs.Refusals.{Test, answer, first, viewTests, ifDone, noRoom}
 use Rattle.codes.specs.declared.refusals.Outcome.the-variants.{Done}
-use Rattle.forms.proofs.OutcomeLaws.{first-past}
+use Rattle.codes.proofs.TestLaws.{first-past}
 use Rattle.codes.proofs.Viewed.{Same, view-passed, long}
 use Rattle.twobit.specs.Files.{entryOf, entrySize, recordOf, recordSize}
 use Rattle.twowrite.specs.Writing.{writing, unequal, longName, badState, farRecord, addTests, sizeAnswer, addOutcome, addAnswer, addAfter}

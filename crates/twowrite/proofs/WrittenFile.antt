@@ -17,7 +17,7 @@ use Rattle.codes.specs.declared.refusals.Outcome.the-variants.{Done}
 use Rattle.codes.proofs.CharLaws.{length-chars}
 use Rattle.codes.proofs.OutcomeLaws.{gives-done}
 use Rattle.codes.proofs.RefusalLaws.{outcomeAt, outcomeAt-number}
-use Rattle.forms.proofs.OutcomeLaws.{first-none}
+use Rattle.codes.proofs.TestLaws.{first-none}
 use Rattle.twobit.specs.Files.{Sequence, fileOf, headerOf, headerSize, indexOf, indexEnd, recordsOf, recordOf, recordSize, entryOf, entrySize, namesSize}
 use Rattle.twowrite.specs.Writing.{writing, startAnswer, startAfter, startOutcome, addOutcome, addAnswer, addAfter, added, startTests, unfinished, finishAnswer}
 use Rattle.twowrite.specs.declared.answers.Writing.{Writing}

@@ -4,20 +4,17 @@
 -- Assumes nothing.
 use mathlib.Core.Bool.{Bool}
 use mathlib.Core.List.{List, []}
-use mathlib.Core.Path.{_≡_, sym, ap, _∙_, subst}
-use Prim.Native.Nat.{ℕ, suc, _+_, _-_, _*_, _/_, _%_, _≤_, _<_, min}
-use native.Mathlib.Nat.{le-trans, le-min, min-le-left}
+use mathlib.Core.Path.{_≡_, sym, ap, _∙_}
+use Prim.Native.Nat.{ℕ, suc, _+_, _-_, _*_, _≤_, _<_}
 use native.Mathlib.Omega.{arith}
 use borrow.Author.Tests.{le-ltb}
-use lib.ListN.{length, getD, replicate, drop, List·getD-append}
-use Rattle.codes.specs.Codes.{pick, tab, chars, trailing}
+use lib.ListN.{length, getD, replicate}
+use Rattle.codes.specs.Codes.{pick, chars, trailing}
 use Rattle.codes.specs.Refusals.{answer, first, ifDone, viewTests}
 use Rattle.codes.specs.Windows.{window}
-use Rattle.codes.specs.declared.refusals.Outcome.{Outcome}
 use Rattle.codes.specs.declared.refusals.Outcome.the-variants.{Done}
 use Rattle.codes.proofs.CharLaws.{length-chars}
 use Rattle.codes.proofs.OutcomeLaws.{first-done}
-use Rattle.codes.proofs.TabLaws.{length-tab, getD-tab}
 use Rattle.codes.proofs.WidthLaws.{width-1, up-hi}
 use Rattle.lanes.specs.Lanes.{lane, padding, steps}
 use Rattle.stores.specs.Changes.{Overwrites}
@@ -26,10 +23,10 @@ use Rattle.stores.specs.Stores.{Call, clear, outcome}
 use Rattle.stores.proofs.HistoryLaws.{history-kept}
 use Rattle.stores.proofs.History as Histories
 use Rattle.stores.proofs.WindowsKept.{windows-kept}
-use Rattle.streams.proofs.Stepping.{at-step, at-lane}
 use Rattle.windows.proofs.RunLaws.{window-open}
+use Rattle.windows.proofs.Whole.{windows-whole}
 use Rattle.windows.proofs.WindowFillLaws.{windows-open}
-use Rattle.windows.specs.Windows.{laneWindow, windowsFilled, Running, atZero, stepAnswers, stepState, fillTests, windowsOutcome, windowsAnswer, windowsAfter, runTests, runOutcome, runAnswers, runState}
+use Rattle.windows.specs.Windows.{windowsFilled, Running, atZero, stepAnswers, stepState, fillTests, windowsOutcome, windowsAnswer, windowsAfter, runTests, runOutcome, runAnswers, runState}
 
 -- an accepted view whose flags are h
 module _ (xs : List ℕ) (p m : ℕ) (h : List ℕ) (are : chars 1 xs p m ≡ h) (taken : first (viewTests 1 (length xs) p m) ≡ Done) (c k : ℕ) where
@@ -65,19 +62,6 @@ module _ (xs : List ℕ) (p m : ℕ) (h : List ℕ) (are : chars 1 xs p m ≡ h)
     unfolding runState
     flags-stepped = λ i. ifDone (flags-run i) (stepState (are i) (lane 1 (count i) c 1) k r) atZero
 
--- an entry of a buffer that was filled
-filled-entry : (flags : List ℕ) (n k skip count : ℕ) (out : List ℕ) (j l : ℕ) → skip ≤ j → j - skip < count → l < 8
-    → getD (windowsFilled flags n k skip count out) (8 * (j - skip) + l) 0 ≡ laneWindow flags n k j l
-unfolding windowsFilled
-filled-entry flags n k skip count out j l a b d =
-    let f : ℕ → ℕ = λ e. laneWindow flags n k (skip + e / 8) (e % 8) in
-    let q : ℕ = 8 * (j - skip) + l in
-    let back : skip + (j - skip) ≡ j = omega arith in
-    List·getD-append (tab (8 * count) f) (drop (8 * count) out) 0 q (rw length-tab (omega arith))
-    ∙ getD-tab (8 * count) f q (omega arith)
-    ∙ (λ i. laneWindow flags n k (skip + at-step (j - skip) l d i) (at-lane (j - skip) l d i))
-    ∙ ap (λ (x : ℕ). laneWindow flags n k x l) back
-
 -- step j, lane l of a filling over a store's track that is done
 pub record Entry (s : Store) (c k skip : ℕ) (out : List ℕ) (j l : ℕ) : Type 0 where
   pub done : windowsOutcome (s .bytes) 0 (s .len) c k skip (length out) ≡ Done
@@ -87,39 +71,30 @@ pub record Entry (s : Store) (c k skip : ℕ) (out : List ℕ) (j l : ℕ) : Typ
 
 -- the position where its window begins
 abbrev pub begins : Store → ℕ → ℕ → ℕ → ℕ → ℕ
-begins s c k j l = l * lane 1 (s .len) c 1 + (suc j - k)
+begins s c k j l = l * lane 1 (s .len) c 1 + suc j - k
 
 -- its value
 abbrev pub entry : Store → ℕ → ℕ → ℕ → List ℕ → ℕ → ℕ → ℕ
 entry s c k skip out j l = getD (windowsAfter (s .bytes) 0 (s .len) c k skip out) (8 * (j - skip) + l) 0
 
 entry-is : {s : Store} {c k skip : ℕ} {out : List ℕ} {j l : ℕ} → Entry s c k skip out j l
-    → entry s c k skip out j l ≡ pick (window (flagsOf s) (begins s c k j l) (min k (suc j))) 0xffff_ffff 0
-unfolding windowsAfter
-entry-is {s} {c} {k} {skip} {out} {j} {l} e =
-    let n : ℕ = lane 1 (s .len) c 1 in
-    let count : ℕ = steps 1 (s .len) c 1 - skip in
-    let below : j < steps 1 (s .len) c 1 = e .below in
-    let from : skip ≤ j = e .from in
-    ap (λ (o : Outcome). getD (ifDone o (windowsFilled (flagsOf s) n k skip count out) out) (8 * (j - skip) + l) 0) (e .done)
-    ∙ filled-entry (flagsOf s) n k skip count out j l from (omega arith) (e .lane-is)
+    → entry s c k skip out j l ≡ pick (window (flagsOf s) (begins s c k j l) k) 0xffff_ffff 0
+entry-is {s} {c} {k} {skip} {out} {j} {l} e = windows-whole (s .bytes) 0 (s .len) c k skip out (e .done) j l (e .from) (e .below) (e .lane-is) .1
 
--- a call keeps the value of an entry whose window, of q positions, lies in the track before and after, and holds no position that the call, if it is
--- done, overwrites; whatever the contexts, the skips and the places of the two entries
-pub entries-kept : (s : Store) (call : Call) {c d k skip skip′ : ℕ} {out out′ : List ℕ} {j j′ l l′ : ℕ} (q : ℕ)
+-- a call keeps the value of an entry whose window lies in the track before and after, and holds no position that the call, if it is done,
+-- overwrites; whatever the contexts, the skips and the places of the two entries
+pub entries-kept : (s : Store) (call : Call) {c d k skip skip′ : ℕ} {out out′ : List ℕ} {j j′ l l′ : ℕ}
     → Entry s c k skip out j l → Entry (step 1 s call) d k skip′ out′ j′ l′
-    → begins (step 1 s call) d k j′ l′ ≡ begins s c k j l → min k (suc j) ≡ q → min k (suc j′) ≡ q
-    → begins s c k j l + q ≤ s .len → begins s c k j l + q ≤ step 1 s call .len
-    → ((i : ℕ) → begins s c k j l ≤ i → i < begins s c k j l + q → Done ≡ outcome 1 (length (s .bytes)) (s .len) call → Overwrites call i → ⊥)
+    → begins (step 1 s call) d k j′ l′ ≡ begins s c k j l
+    → begins s c k j l + k ≤ s .len → begins s c k j l + k ≤ step 1 s call .len
+    → ((i : ℕ) → begins s c k j l ≤ i → i < begins s c k j l + k → Done ≡ outcome 1 (length (s .bytes)) (s .len) call → Overwrites call i → ⊥)
     → entry (step 1 s call) d k skip′ out′ j′ l′ ≡ entry s c k skip out j l
-entries-kept s call {c} {d} {k} {skip} {skip′} {out} {out′} {j} {j′} {l} {l′} q e f same long long′ a b h =
+entries-kept s call {c} {d} {k} {skip} {skip′} {out} {out′} {j} {j′} {l} {l′} e f same a b h =
     let W = window-open (s .bytes) 0 (s .len) c k (windows-open (s .bytes) 0 (s .len) c k skip (length out) (e .done) .0) in
-    let lo : 1 ≤ q = subst (λ (x : ℕ). 1 ≤ x) long (le-min (W .low) (omega arith)) in
-    let hi : q ≤ 96 = subst (λ (x : ℕ). x ≤ 96) long (le-trans (min-le-left k (suc j)) (W .high)) in
     entry-is f
-    ∙ (λ i. pick (window (flagsOf (step 1 s call)) (same i) (long′ i)) 0xffff_ffff 0)
-    ∙ ap (λ (t : Bool). pick t 0xffff_ffff 0) (windows-kept s call (begins s c k j l) q lo hi a b h)
-    ∙ sym (entry-is e ∙ ap (λ (x : ℕ). pick (window (flagsOf s) (begins s c k j l) x) 0xffff_ffff 0) long)
+    ∙ ap (λ (p : ℕ). pick (window (flagsOf (step 1 s call)) p k) 0xffff_ffff 0) same
+    ∙ ap (λ (t : Bool). pick t 0xffff_ffff 0) (windows-kept s call (begins s c k j l) k (W .low) (W .high) a b h)
+    ∙ sym (entry-is e)
 
 -- after a clear that is accepted and the calls cs
 module _ (bs : List ℕ) (old : ℕ) (e : outcome 1 (length bs) 0 clear ≡ Done) (cs : List Call) where

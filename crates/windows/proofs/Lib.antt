@@ -1,6 +1,7 @@
 pub mod WindowLaws
 pub mod RunLaws
 pub mod WindowFillLaws
+pub mod Whole
 pub mod TotalLaws
 pub mod Stepping
 pub mod Viewed

@@ -12,7 +12,7 @@ use lib.ListN.{length, getD, replicate}
 use lib.Pow.{pow-pos}
 use borrow.Author.Tests.{ltb-false, le-leb, lt-leb}
 use Rattle.codes.specs.Codes.{pick, tab, chars}
-use Rattle.codes.specs.Refusals.{first, ifDone, viewTests}
+use Rattle.codes.specs.Refusals.{Test, first, ifDone, viewTests}
 use Rattle.codes.specs.declared.refusals.Outcome.the-variants.{Done, Refused}
 use Rattle.codes.specs.declared.refusals.Outcome.{Outcome}
 use Rattle.codes.specs.declared.refusals.Refusal.{Refusal}
@@ -21,11 +21,11 @@ use Rattle.codes.proofs.CodeLaws.{pick-lt}
 use Rattle.codes.proofs.TabLaws.{getD-tab, tab-ext, Below-tab, Below-getD}
 use Rattle.codes.proofs.WordLaws.{Below}
 use Rattle.codes.proofs.OutcomeLaws.{or-true, first-both, first-refused}
+use Rattle.codes.proofs.TestLaws.{first-behind, first-none}
 use Rattle.lanes.specs.Lanes.{lane, steps, badShape, laneChar, lanes}
 use Rattle.streams.specs.Streams.{badStep}
 use Rattle.windows.specs.Windows.{badWindow, badState, Running, atZero, summed, leaving, anyLane, stepAnswers, stepState, windowTests, runOutcome, runAnswers, runState}
 use Rattle.codes.proofs.RefusalLaws.{neither}
-use Rattle.lanes.proofs.ShapeLaws.{not-first, first-of-two, second-of-two, none-of-two}
 
 pub any-step : (l : ℕ) (f : ℕ → Bool) → anyLane (l + 1) f ≡ (anyLane l f || f l)
 any-step l f = ap (λ (n : ℕ). anyLane n f) (add-one l)
@@ -63,7 +63,7 @@ pub window-open : (bs : List ℕ) (o len c k : ℕ) → first (windowTests bs o 
 window-open bs o len c k h =
     let a = first-both (viewTests 1 (length bs) o len) (badShape c 1 ∷ badWindow k ∷ []) h in
     let b = first-both (badShape c 1 ∷ []) (badWindow k ∷ []) (a .1) in
-    let t = neither (ltb k 1) (ltb 96 k) (not-first (ltb k 1 || ltb 96 k) BadStream (b .1)) in
+    let t = neither (ltb k 1) (ltb 96 k) (first-none (badWindow k ∷ []) (b .1) .0) in
     record { view = a .0; shape = b .0; low = ltb-false k 1 (t .0); high = ltb-false 96 k (t .1) }
 
 -- ---- a step's lanes
@@ -138,19 +138,23 @@ module _ (bs : List ℕ) (o len c k : ℕ) (s : Running) where
   unfolding runAnswers runState
   run-done e = (ap (λ (u : Outcome). ifDone u (stepAnswers cs n s) (replicate 8 0)) e, ap (λ (u : Outcome). ifDone u (stepState cs n k s) atZero) e)
 
+  -- a step's own tests
+  abbrev own : List Test
+  own = badStep (steps 1 len c 1) (s .at) ∷ badState cs n k s ∷ []
+
   module _ (opened : first (windowTests bs o len c k) ≡ Done) where
     pub run-past : steps 1 len c 1 ≤ s .at → runOutcome bs o len c k s ≡ Refused BadStream
     unfolding runOutcome
-    run-past h = sym (first-of-two (windowTests bs o len c k) opened (badStep (steps 1 len c 1) (s .at)) (badState cs n k s) (le-leb (steps 1 len c 1) (s .at) h))
+    run-past h = sym (first-behind (windowTests bs o len c k) own opened 0 (le-leb (steps 1 len c 1) (s .at) h))
 
     pub run-bad : s .at < steps 1 len c 1 → badState cs n k s .0 ≡ true → runOutcome bs o len c k s ≡ Refused BadStream
     unfolding runOutcome
-    run-bad h e = sym (second-of-two (windowTests bs o len c k) opened (badStep (steps 1 len c 1) (s .at)) (badState cs n k s) (lt-leb (steps 1 len c 1) (s .at) h) e)
+    run-bad h e = sym (first-behind (windowTests bs o len c k) own opened 1 (lt-leb (steps 1 len c 1) (s .at) h, e))
 
     pub run-right : s .at < steps 1 len c 1 → badState cs n k s .0 ≡ false → runOutcome bs o len c k s ≡ Done
     unfolding runOutcome
-    run-right h e = sym (none-of-two (windowTests bs o len c k) opened (badStep (steps 1 len c 1) (s .at)) (badState cs n k s) (lt-leb (steps 1 len c 1) (s .at) h) e)
+    run-right h e = sym (first-behind (windowTests bs o len c k) own opened 2 (lt-leb (steps 1 len c 1) (s .at) h, (e, tt)))
 
   pub run-shut : (r : Refusal) → first (windowTests bs o len c k) ≡ Refused r → runOutcome bs o len c k s ≡ Refused r
   unfolding runOutcome
-  run-shut r e = first-refused (windowTests bs o len c k) (badStep (steps 1 len c 1) (s .at) ∷ badState cs n k s ∷ []) r e
+  run-shut r e = first-refused (windowTests bs o len c k) own r e

@@ -1,6 +1,6 @@
 -- Windows of flags over the eight lanes of a stream, by their flags and by running counts; what each call answers and writes.
 -- Assumes nothing.
-use mathlib.Core.Bool.{Bool, false, _||_}
+use mathlib.Core.Bool.{Bool, false, _&&_, _||_}
 use mathlib.Core.List.{List, [], _∷_, _++_}
 use Prim.Native.Nat.{ℕ, zero, suc, _+_, _-_, _*_, _/_, _%_, min}
 use lib.Dec.{ltb}
@@ -9,7 +9,7 @@ use Rattle.codes.specs.Codes.{pick, tab, chars}
 use Rattle.codes.specs.Refusals.{Test, Answer, answer, first, ifDone, noRoom, viewTests}
 use Rattle.codes.specs.Windows.{window}
 use Rattle.codes.specs.declared.refusals.Outcome.{Outcome}
-use Rattle.codes.specs.declared.refusals.Refusal.the-variants.{BadStream}
+use Rattle.codes.specs.declared.refusals.Refusal.the-variants.{BadStream, Partial}
 use Rattle.lanes.specs.Lanes.{lane, padding, steps, badShape, laneChar}
 use Rattle.streams.specs.Streams.{badStep}
 
@@ -20,6 +20,10 @@ badWindow k = (ltb k 1 || ltb 96 k, BadStream)
 -- skip at most the steps
 abbrev pub badSkip : ℕ → ℕ → Test
 badSkip n skip = (ltb n skip, BadStream)
+
+-- if there are steps, skip below k − 1 or context c below k
+abbrev pub partial : ℕ → ℕ → ℕ → ℕ → Test
+partial n c k skip = (ltb 0 n && (ltb skip (k - 1) || ltb c k), Partial)
 
 -- a position from l n + max(0, j − k + 1) to l n + j is within the view and flagged: all 32 bits set, else 0
 abbrev pub laneWindow : List ℕ → ℕ → ℕ → ℕ → ℕ → ℕ
@@ -75,9 +79,13 @@ shapeTests c k = badShape c 1 ∷ badWindow k ∷ []
 abbrev pub windowTests : List ℕ → ℕ → ℕ → ℕ → ℕ → List Test
 windowTests bs o len c k = viewTests 1 (length bs) o len ++ shapeTests c k
 
--- filling windows over so many flags from `skip` on, into a buffer of m entries
+-- filling n steps of windows from `skip` on
+abbrev pub skipTests : ℕ → ℕ → ℕ → ℕ → List Test
+skipTests n c k skip = badSkip n skip ∷ partial n c k skip ∷ []
+
+-- filling windows over so many flags, into a buffer of m entries, whose room is judged last
 abbrev pub fillTests : ℕ → ℕ → ℕ → ℕ → ℕ → List Test
-fillTests len c k skip m = shapeTests c k ++ badSkip (steps 1 len c 1) skip ∷ noRoom m (8 * (steps 1 len c 1 - skip)) ∷ []
+fillTests len c k skip m = shapeTests c k ++ skipTests (steps 1 len c 1) c k skip ++ noRoom m (8 * (steps 1 len c 1 - skip)) ∷ []
 
 unfoldable pub windowsOutcome : List ℕ → ℕ → ℕ → ℕ → ℕ → ℕ → ℕ → Outcome
 windowsOutcome bs o len c k skip m = first (viewTests 1 (length bs) o len ++ fillTests len c k skip m)

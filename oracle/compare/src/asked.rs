@@ -40,7 +40,7 @@ pub fn random() {
     }
     random_streams::<2>(&mut Dice(76), 9000);
     random_streams::<1>(&mut Dice(77), 9000);
-    random_windows(&mut Dice(78), 25000);
+    random_windows(&mut Dice(78), 31000);
 }
 
 /// All lists of up to `most` items below `kinds`.
@@ -362,14 +362,16 @@ fn short_windows() {
 fn random_windows(dice: &mut Dice, rounds: usize) {
     for _ in 0..rounds {
         let len = dice.below_one_of([40, 300, 900]);
-        let context = 1 + dice.below_one_of([3, 40, 100]);
+        let k = 1 + dice.below_one_of([5, 98]);
+        // a context that k needs and a skip that it needs, two times out of three each
+        let [context_from, skip_from] = [k, k - 1].map(|least| least * dice.below(3).min(1));
+        let context = context_from.max(1) + dice.below_one_of([3, 40, 100]);
         let offset = dice.below(24);
         let bytes = flagged(dice, len, offset);
         first(&bytes);
         let stream = Stream::<1>::new(&bytes, offset, len, context, 1);
         let (_, steps, _) = stream.lanes();
-        let k = 1 + dice.below_one_of([5, 98]);
-        let skip = dice.below_one_of([2, steps + 2]);
+        let skip = skip_from + dice.below_one_of([2, steps.saturating_sub(skip_from) + 2]);
         stream.windows(k, skip);
     }
 }

@@ -12,7 +12,7 @@ use oracle::cases::lines::{Line, listen};
 use oracle::cases::{codes, field_failures, order_cases, store_cases, stream_cases, view_cases};
 use ours::Ours;
 use std::{cell::RefCell, process::ExitCode, rc::Rc};
-use tally::Tally;
+use tally::{Tally, With};
 
 fn main() -> ExitCode {
     let tally = Rc::new(RefCell::new(Tally::default()));
@@ -21,6 +21,11 @@ fn main() -> ExitCode {
         Line::Case(numbers, answer) => counted.borrow_mut().case(&mut ours, numbers, answer),
         Line::Compared(numbers, answers) => {
             counted.borrow_mut().compared(&mut ours, numbers, answers)
+        }
+        Line::Stepped(numbers, entries) => {
+            counted
+                .borrow_mut()
+                .stepped(&ours, numbers, entries, With::Original)
         }
         _ => ours.fill(line),
     });

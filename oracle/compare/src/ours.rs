@@ -222,7 +222,7 @@ impl Ours {
             Line::First(bytes) => self.first = bytes.to_vec(),
             Line::Second(bytes) => self.second = bytes.to_vec(),
             Line::Out(size, byte) => self.out = vec![byte; size],
-            Line::Case(..) | Line::Compared(..) => {}
+            Line::Case(..) | Line::Compared(..) | Line::Stepped(..) => {}
         }
     }
 

@@ -6,7 +6,7 @@ use std::{collections::BTreeMap, process::ExitCode};
 /// What ours is compared with.
 #[derive(Clone, Copy)]
 pub enum With {
-    /// The original's answer to the same call, or its panic.
+    /// The original's answer to the same call, or its panic; to windows that are partial, which ours gives step by step alone.
     Original,
     /// What its answers to other calls make up: the original has no such call, or one that differs.
     Parts,
@@ -65,20 +65,28 @@ impl Tally {
         let before = ours.clone();
         let given = ours.answer(numbers);
         let refused = answer.first().is_some_and(|&n| n != 0);
-        let told = |given: &[u64]| told(&before, numbers, answer, given);
         let with = with(numbers, refused, before.letters());
         let family = family(numbers[0]);
-        self.compare(family, with, given == answer, size, || told(&given));
+        self.compare(family, with, given == answer, size, || {
+            told(&before, numbers, answer, &given)
+        });
         if let (60..=63, false) = (numbers[0], refused) {
-            let stepped = before.stepped(numbers);
-            let family = if numbers[0] == 63 {
-                "windows, stepped"
-            } else {
-                "streams, stepped"
-            };
-            let agree = stepped == answer[3..];
-            self.compare(family, With::Again, agree, size, || told(&stepped));
+            self.stepped(&before, numbers, &answer[3..], With::Again);
         }
+    }
+
+    /// A stream's entries against ours, step by step.
+    pub fn stepped(&mut self, ours: &Ours, numbers: &[usize], entries: &[u64], with: With) {
+        let given = ours.stepped(numbers);
+        let family = if numbers[0] == 63 {
+            "windows, stepped"
+        } else {
+            "streams, stepped"
+        };
+        let size = size(ours, numbers);
+        self.compare(family, with, given == entries, size, || {
+            told(ours, numbers, entries, &given)
+        });
     }
 
     /// The one answer of a comparison against the three of the original: `cmp_lcp`, `cmp`, and `==`, which holds exactly at order 0.

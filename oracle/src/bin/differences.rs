@@ -109,9 +109,9 @@ fn delayed(
         .map(|(_, delayed)| delayed)
 }
 
-/// Flag windows without skip.
-fn windows(view: BitSeq, k: usize, context: usize) -> PaddedIt<impl ChunkIt<u32x8>> {
-    view.par_iter_kmer_ambiguity(k, context, 0)
+/// Flag windows from step `skip` on.
+fn windows(view: BitSeq, k: usize, context: usize, skip: usize) -> PaddedIt<impl ChunkIt<u32x8>> {
+    view.par_iter_kmer_ambiguity(k, context, skip)
 }
 
 /// The flags of a text.
@@ -130,7 +130,7 @@ fn codes() {
     difference!(name, inside::bytes(&flags_of("AUuN"))[0], "8");
     difference!(
         name,
-        lane_0(windows(flags_of("AU").as_slice(), 2, 2), 1),
+        lane_0(windows(flags_of("AU").as_slice(), 2, 2, 1), 0),
         "0"
     );
 
@@ -248,12 +248,25 @@ fn streams() {
     let name = "streams show stray bits past the view";
     difference!(name, lane_0(bases(&[4], 0, 1).par_iter_bp(1), 1), "0");
     difference!(name, lane_0(delayed(bases(&[4], 0, 1), 1, 1, 1), 2), "0");
-    difference!(name, lane_0(windows(flags(&[2], 0, 1), 1, 1), 1), "0");
+    difference!(name, lane_0(windows(flags(&[2], 0, 1), 1, 1, 0), 1), "0");
 
     let name = "a context that only the in-byte offset reaches gives steps";
     difference!(name, bases(&[0], 1, 1).par_iter_bp(2).it.len(), "0");
     difference!(name, delayed(bases(&[0], 1, 1), 2, 0, 1).it.len(), "0");
-    difference!(name, windows(flags(&[0], 1, 1), 1, 2).it.len(), "0");
+    difference!(name, windows(flags(&[0], 1, 1), 1, 2, 0).it.len(), "0");
+
+    let name = "windows of fewer than k flags are given";
+    difference!(
+        name,
+        lane_0(windows(flags(&[1], 0, 3), 2, 2, 0), 0),
+        "refused 10"
+    );
+    let name = "a context below k is taken for windows";
+    difference!(
+        name,
+        windows(flags(&[1], 0, 3), 2, 1, 1).it.len(),
+        "refused 10"
+    );
 
     let name = "context 0 gives no steps";
     difference!(name, bases(&[0], 0, 1).par_iter_bp(0).it.len(), "refused 8");

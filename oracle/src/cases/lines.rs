@@ -21,6 +21,8 @@ pub enum Line<'a> {
     Case(&'a [usize], &'a [u64]),
     /// The numbers of a comparison, and what `cmp_lcp`, `cmp` and `==` answer; the first alone is printed.
     Compared(&'a [usize], [&'a [u64]; 3]),
+    /// The numbers of windows that filling refuses as partial, and their entries, which stepping gives; not printed.
+    Stepped(&'a [usize], &'a [u64]),
 }
 
 type Listener = Box<dyn FnMut(Line)>;
@@ -52,6 +54,7 @@ fn print(line: Line) {
         Line::Case(numbers, answer) | Line::Compared(numbers, [answer, ..]) => {
             println!("{} = {}", spaced(numbers), spaced(answer))
         }
+        Line::Stepped(..) => {}
     }
 }
 
@@ -64,6 +67,11 @@ pub fn case(numbers: &[usize], answer: &[u64]) {
 pub fn compared(numbers: &[usize], answers: [&[u64]; 3]) {
     assert!(numbers.iter().all(|&n| n <= HUGE), "{numbers:?}");
     tell(Line::Compared(numbers, answers));
+}
+
+/// Windows that are only stepped.
+pub fn stepped(numbers: &[usize], entries: &[u64]) {
+    tell(Line::Stepped(numbers, entries));
 }
 
 /// Fills the first buffer.

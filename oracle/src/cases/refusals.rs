@@ -1,5 +1,6 @@
 //! Document 01's refusal table, as far as the cases reach it: each line is a test, and a refused call answers the lowest
-//! number whose test holds and zeros for the other numbers. Sums are exact: no number of a case reaches 2^32.
+//! number whose test holds and zeros for the other numbers. Sums are exact: no number of a case reaches 2^32. PARTIAL comes
+//! before NO_ROOM: no case of windows is short of room.
 
 use super::plain::{per, up};
 
@@ -36,6 +37,11 @@ pub fn bad_stream(holds: bool) -> Test {
 
 pub fn no_room(size: usize, needed: usize) -> Test {
     (needed > size, 9)
+}
+
+/// If there are steps: a skip below k - 1, or a context below k.
+pub fn partial(steps: usize, context: usize, k: usize, skip: usize) -> Test {
+    (steps > 0 && (skip + 1 < k || context < k), 10)
 }
 
 /// The refusal number, 0 where nothing is refused.

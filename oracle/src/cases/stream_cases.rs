@@ -117,7 +117,7 @@ fn windows() {
             first(&bytes);
             let stream = Stream::<1>::new(&bytes, offset, len, context, 1);
             let (_, steps, _) = stream.lanes();
-            for skip in BTreeSet::from([0, context - 1, steps, steps + 1]) {
+            for skip in BTreeSet::from([0, k.max(2) - 2, k - 1, context - 1, steps, steps + 1]) {
                 if 8 * steps.saturating_sub(skip) <= MOST {
                     stream.windows(k, skip);
                 }
@@ -163,7 +163,7 @@ where
     }
 }
 
-/// The same for windows, their k and their skip.
+/// The same for windows, their k and their skip, and skips and contexts around the least of a whole window.
 fn window_edges() {
     let bytes = dressed(1, &[0, 1, 0, 0, 0, 0, 1, 0, 0, 0], 3, 255);
     let most = (bytes.len() - BEHIND) * 8 - 3;
@@ -186,5 +186,23 @@ fn window_edges() {
     for (offset, len) in [(3, most), (3, most + 1), (4, most), (HUGE, 0), (0, HUGE)] {
         ask(offset, len, 3, 2, 0);
         ask(offset, len, 0, 97, HUGE);
+    }
+    for k in [1, 2, 3, 8, 10, 11] {
+        for context in [k.max(2) - 1, k, k + 1] {
+            let (_, steps, _) = Stream::<1>::new(&bytes, 3, 10, context, 1).lanes();
+            let around = [
+                0,
+                1,
+                k.max(2) - 2,
+                k - 1,
+                k,
+                steps.max(1) - 1,
+                steps,
+                steps + 1,
+            ];
+            for skip in BTreeSet::from(around) {
+                ask(3, 10, context, k, skip);
+            }
+        }
     }
 }

@@ -8,10 +8,10 @@
 //! The direct answers are asserted to be the printed ones at every place within the view, but where only the in-byte
 //! offset reaches the context.
 
-use super::lines::case;
+use super::lines::{case, stepped};
 use super::original::{afresh, characters, view};
 use super::plain;
-use super::refusals::{Test, bad_stream, bad_view, number};
+use super::refusals::{Test, bad_stream, bad_view, number, partial};
 use crate::packed_seq::{Bits, PackedSeqBase, SupportedBits};
 use crate::{ChunkIt, Delay, PaddedIt, Seq, SeqVec, u32x8};
 
@@ -118,30 +118,37 @@ where
 }
 
 impl Stream<'_, 1> {
-    /// Flag windows; the factor is 1.
+    /// Flag windows; the factor is 1. Where they are partial, filling is refused, and stepping gives the original's entries.
     pub fn windows(&self, k: usize, skip: usize) {
         let (n, steps, padding) = self.lanes();
+        let numbers = [63, self.offset, self.len, self.context, k, skip];
+        let refused = |number| case(&numbers, &[number, 0, 0]);
         let tests = self.tests(!(1..=96).contains(&k) || skip > steps);
-        let answer = match number(&tests) {
-            0 => {
-                let flags = characters(self.view());
-                let store = afresh(&flags);
-                let ask = |view: PackedSeqBase<1>| {
-                    let stream = view.par_iter_kmer_ambiguity(k, self.context, skip);
-                    assert_eq!(stream.padding, padding);
-                    lane_entries(stream.it)
-                };
-                let entries = ask(store.as_slice());
-                assert_eq!(entries, plain::windows(&flags, n, steps, k, skip));
-                if !self.reached_by_offset() {
-                    self.agree(&ask(self.view()), &entries, skip);
-                }
-                let numbers = [0, (steps - skip) as u64, padding as u64];
-                numbers.into_iter().chain(entries).collect()
-            }
-            refusal => vec![refusal, 0, 0],
+        if number(&tests) != 0 {
+            return refused(number(&tests));
+        }
+        let flags = characters(self.view());
+        let store = afresh(&flags);
+        let ask = |view: PackedSeqBase<1>| {
+            let stream = view.par_iter_kmer_ambiguity(k, self.context, skip);
+            assert_eq!(stream.padding, padding);
+            lane_entries(stream.it)
         };
-        case(&[63, self.offset, self.len, self.context, k, skip], &answer);
+        let entries = ask(store.as_slice());
+        assert_eq!(entries, plain::windows(&flags, n, steps, k, skip));
+        if !self.reached_by_offset() {
+            self.agree(&ask(self.view()), &entries, skip);
+        }
+        match number(&[partial(steps, self.context, k, skip)]) {
+            0 => {
+                let answer = [0, (steps - skip) as u64, padding as u64];
+                case(&numbers, &[&answer[..], &entries].concat());
+            }
+            partial => {
+                refused(partial);
+                stepped(&numbers, &entries);
+            }
+        }
     }
 }
 

@@ -1,5 +1,6 @@
 // Flag windows: filling all steps from `skip` on.
 use crate::inner::marks::write_windows;
+use crate::inner::outcomes::partial;
 use crate::inner::outcomes::window_outcome;
 use codes::inner::bits::smaller;
 use codes::refusals::Outcome;
@@ -63,6 +64,9 @@ fn windows_answer(
             let p = plan_of(1, len, context, 1);
             if p.steps < skip {
                 return Filled::Refused(Refusal::BadStream);
+            }
+            if partial(p.steps, context, k, skip) {
+                return Filled::Refused(Refusal::Partial);
             }
             let left = p.steps - skip;
             if room < 8 * left {

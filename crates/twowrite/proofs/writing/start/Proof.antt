@@ -8,7 +8,7 @@ use borrow.Author.Tests.{ltb-false, leb-false}
 use Rattle.codes.specs.declared.refusals.Outcome.{Outcome}
 use Rattle.codes.specs.declared.refusals.Outcome.the-variants.{Done, Refused}
 use Rattle.codes.proofs.OutcomeLaws.{answer-done, answer-refused, gives-done, gives-refused}
-use Rattle.forms.proofs.OutcomeLaws.{first-none}
+use Rattle.codes.proofs.TestLaws.{first-none}
 use Rattle.twobit.specs.Files.{offsetSize, indexEnd}
 use Rattle.twowrite.specs.Writing.{startTests, startOutcome, startAnswer, startAfter}
 use Rattle.twowrite.proofs.writing.start.Statement.{statement}

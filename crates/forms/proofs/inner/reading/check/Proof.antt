@@ -8,7 +8,7 @@ use Rattle.codes.specs.Refusals.{Test, answer, tooLong}
 use Rattle.codes.specs.declared.refusals.Outcome.{Outcome}
 use Rattle.codes.specs.declared.refusals.Refusal.the-variants.{TooLong}
 use Rattle.forms.specs.Reading.{readTests, headOf, bodyOf, formLength}
-use Rattle.forms.proofs.OutcomeLaws.{answer-at, first-past}
+use Rattle.codes.proofs.TestLaws.{answer-at, first-past}
 use Rattle.forms.proofs.inner.reading.check.Statement.{statement}
 use Rattle.forms.proofs.inner.reading.check.Tie as tie
 

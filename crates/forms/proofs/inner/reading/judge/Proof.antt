@@ -16,7 +16,7 @@ use Rattle.forms.specs.Answers.{spelledSays}
 use Rattle.forms.specs.Reading.{formTests, headOf, bodyOf, formLength}
 use Rattle.forms.specs.Numbers.{Spelling}
 use Rattle.forms.proofs.FormLaws.{Judged, checked-none, checked-some}
-use Rattle.forms.proofs.OutcomeLaws.{first-at, answer-at}
+use Rattle.codes.proofs.TestLaws.{first-at, answer-at}
 use Rattle.forms.proofs.inner.reading.judge.Statement.{statement}
 use Rattle.forms.proofs.inner.reading.judge.Tie as tie
 

@@ -10,7 +10,8 @@ use borrow.Author.Tests.{ltb-false, lt-ltb, le-ltb}
 use Rattle.codes.specs.Refusals.{Test, first, tooLong, badView, noRoom}
 use Rattle.codes.proofs.WidthLaws.{width-1, width-2}
 use Rattle.forms.specs.Forms.{writeTests, badTracks, formSize}
-use Rattle.forms.proofs.OutcomeLaws.{Stops, refusedAt, first-at, tracks-differ, tracks-long, tracks-right}
+use Rattle.codes.proofs.TestLaws.{Stops, refusedAt, first-at}
+use Rattle.forms.proofs.OutcomeLaws.{tracks-differ, tracks-long, tracks-right}
 use Rattle.forms.proofs.inner.writing.write_outcome.Statement.{statement}
 use Rattle.forms.proofs.inner.writing.write_outcome.Tie as tie
 

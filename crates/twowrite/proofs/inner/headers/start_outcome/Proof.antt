@@ -7,7 +7,7 @@ use native.Mathlib.Omega.{arith}
 use borrow.Author.Needs.{needs}
 use borrow.Author.Tests.{lt-ltb, le-ltb, le-leb, lt-leb}
 use Rattle.codes.specs.Refusals.{Test}
-use Rattle.forms.proofs.OutcomeLaws.{first-at}
+use Rattle.codes.proofs.TestLaws.{first-at}
 use Rattle.twobit.specs.Files.{indexEnd}
 use Rattle.twowrite.specs.Writing.{startTests}
 use Rattle.twowrite.proofs.inner.headers.start_outcome.Statement.{statement}

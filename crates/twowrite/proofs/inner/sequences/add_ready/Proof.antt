@@ -15,7 +15,7 @@ use Rattle.codes.proofs.OutcomeLaws.{answer-done}
 use Rattle.codes.proofs.WidthLaws.{width-1, width-2, up-le}
 use Rattle.fields.specs.Runs.{runs}
 use Rattle.fields.proofs.ViewLaws.{Room}
-use Rattle.forms.proofs.OutcomeLaws.{None, first-past}
+use Rattle.codes.proofs.TestLaws.{None, first-past}
 use Rattle.twobit.specs.Files.{recordSize}
 use Rattle.twowrite.specs.Writing.{addTests, writing}
 use Rattle.twowrite.proofs.RunLaws.{runs-few, record-size-is}

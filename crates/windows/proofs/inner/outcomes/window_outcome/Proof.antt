@@ -5,9 +5,9 @@ use lib.ListN.{length}
 use Rattle.codes.specs.Refusals.{Test, first, viewTests}
 use Rattle.codes.specs.declared.refusals.Outcome.the-variants.{Done}
 use Rattle.codes.proofs.OutcomeLaws.{first-refused}
+use Rattle.codes.proofs.TestLaws.{first-behind}
 use Rattle.lanes.specs.Lanes.{badShape}
 use Rattle.windows.specs.Windows.{badWindow}
-use Rattle.lanes.proofs.ShapeLaws.{first-of-two, second-of-two, none-of-two}
 use borrow.Author.Needs.{needs}
 use Rattle.windows.proofs.inner.outcomes.window_outcome.Statement.{statement}
 use Rattle.windows.proofs.inner.outcomes.window_outcome.Tie as tie
@@ -45,7 +45,7 @@ bad-shape-requires c κs = search needs
 
 returns : tie.Need-returns
 returns c =
-    let k = c .before .before in first-of-two (tests (s k)) (done k) (shape (s k)) (window (s k)) (sym (c .before .bad-shape .ensures) ∙ c .if1 .taken)
+    let k = c .before .before in first-behind (tests (s k)) (shape (s k) ∷ window (s k) ∷ []) (done k) 0 (sym (c .before .bad-shape .ensures) ∙ c .if1 .taken)
 
 bad-window-requires : tie.Need-bad-window-requires
 bad-window-requires c κs = search needs
@@ -54,7 +54,7 @@ returns-2 : tie.Need-returns-2
 returns-2 c =
     let t = c .before .before in
     let k = t .before .before in
-    second-of-two (tests (s k)) (done k) (shape (s k)) (window (s k)) (sym (t .before .bad-shape .ensures) ∙ t .if1 .left) (sym (c .before .bad-window .ensures) ∙ c .if2 .taken)
+    first-behind (tests (s k)) (shape (s k) ∷ window (s k) ∷ []) (done k) 1 (sym (t .before .bad-shape .ensures) ∙ t .if1 .left, sym (c .before .bad-window .ensures) ∙ c .if2 .taken)
 
 returns-3 : tie.Need-returns-3
 returns-3 c =
@@ -67,7 +67,7 @@ returns-4 : tie.Need-returns-4
 returns-4 c =
     let t = c .before .before in
     let k = t .before .before in
-    none-of-two (tests (s k)) (done k) (shape (s k)) (window (s k)) (sym (t .before .bad-shape .ensures) ∙ t .if1 .left) (sym (c .before .bad-window .ensures) ∙ c .if2 .left)
+    first-behind (tests (s k)) (shape (s k) ∷ window (s k) ∷ []) (done k) 2 (sym (t .before .bad-shape .ensures) ∙ t .if1 .left, (sym (c .before .bad-window .ensures) ∙ c .if2 .left, tt))
 
 pub window-outcome-spec : {M : Type 1} → statement M
 window-outcome-spec =

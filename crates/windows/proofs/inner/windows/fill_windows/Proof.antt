@@ -24,7 +24,7 @@ window-one-requires c κs =
     let x = c .before .before .steps .given in
     let d = windows-is-done (a .bytes .now) (a .offset .0) (a .len .0) (a .context .0) (a .k .0) (a .skip) (a .out .now) (w .result) (w .ensures) (x .0 .0) (x .0 .1 .0) (x .1) in
     let r = windows-open (a .bytes .now) (a .offset .0) (a .len .0) (a .context .0) (a .k .0) (a .skip) (length (a .out .now)) d in
-    (r .0, r .2)
+    (r .0, r .3)
 
 returns : tie.Need-returns
 returns c =

@@ -1,20 +1,23 @@
--- The windows' tests, then the skip's and the room's. Assumes nothing.
-use mathlib.Core.List.{List, [], _∷_}
-use mathlib.Core.Path.{_≡_, sym, _∙_}
+-- The windows' tests, then those of the skip, the partial windows and the room. Assumes nothing.
+use mathlib.Core.Bool.{false}
+use mathlib.Core.List.{List}
+use mathlib.Core.Path.{_≡_, sym, ap, ap₂, _∙_}
 use Prim.Native.Nat.{ℕ, _-_, _*_}
 use native.Mathlib.Omega.{arith}
+use lib.Dec.{ltb}
 use lib.ListN.{length}
 use borrow.Author.Tests.{lt-ltb, le-ltb}
-use Rattle.codes.specs.Refusals.{Test, first, noRoom}
+use Rattle.codes.specs.Refusals.{Test, first}
 use Rattle.codes.specs.declared.refusals.Outcome.the-variants.{Done}
-use Rattle.codes.specs.declared.refusals.Refusal.the-variants.{BadStream, NoRoom}
+use Rattle.codes.specs.declared.refusals.Refusal.the-variants.{BadStream, NoRoom, Partial}
 use Rattle.codes.proofs.WidthLaws.{width-1}
 use Rattle.codes.proofs.OutcomeLaws.{first-refused, answer-done, answer-refused}
+use Rattle.codes.proofs.TestLaws.{first-behind}
 use Rattle.lanes.specs.Lanes.{padding, steps}
-use Rattle.windows.specs.Windows.{badSkip, windowTests, windowsOutcome, windowsAnswer}
+use Rattle.windows.specs.Windows.{partial, windowTests, windowsOutcome, windowsAnswer}
 use Rattle.lanes.proofs.LaneLaws.{stream-sizes}
 use Rattle.windows.proofs.RunLaws.{Windowed, window-open}
-use Rattle.lanes.proofs.ShapeLaws.{first-of-two, second-of-two, none-of-two}
+use Rattle.windows.proofs.WindowFillLaws.{fillsOwn}
 use borrow.Author.Needs.{needs}
 use Rattle.windows.proofs.inner.windows.windows_answer.Statement.{statement}
 use Rattle.windows.proofs.inner.windows.windows_answer.Tie as tie
@@ -28,7 +31,7 @@ enum-known-refusal c = search needs
 enum-told : tie.Need-enum-told
 enum-told c = search needs
 
--- the tests, of the windows, the skip and the room; and the answer
+-- the windows' tests, filling's own, and the answer
 module _ (s : tie.Start) where
   abbrev tests : List Test
   tests = windowTests (s .args .bytes .now) (s .args .offset .0) (s .args .len .0) (s .args .context .0) (s .args .k .0)
@@ -36,11 +39,8 @@ module _ (s : tie.Start) where
   abbrev many : ℕ
   many = steps 1 (s .args .len .0) (s .args .context .0) 1
 
-  abbrev skips : Test
-  skips = badSkip many (s .args .skip)
-
-  abbrev room : Test
-  room = noRoom (s .args .room) (8 * (many - s .args .skip))
+  abbrev own : List Test
+  own = fillsOwn many (s .args .context .0) (s .args .k .0) (s .args .skip) (s .args .room)
 
   abbrev given : ℕ × ℕ
   given = (many - s .args .skip, padding 1 (s .args .len .0) (s .args .context .0) 1)
@@ -65,49 +65,77 @@ returns c =
     let p = c .before .before in
     let k = p .before in
     let o = s k in
-    let e = first-of-two (tests o) (done k) (skips o) (room o) (lt-ltb (many o) (o .args .skip) (omega (arith, p .plan-of .ensures .steps))) in
+    let e = first-behind (tests o) (own o) (done k) 0 (lt-ltb (many o) (o .args .skip) (omega (arith, p .plan-of .ensures .steps))) in
     answer-refused _ BadStream (given o) (0, 0) (sym e)
 
-mul-if2 : tie.Need-mul-if2
-mul-if2 c =
-    let p = c .before .before .before in
-    let k = p .before in
-    let a = s k .args in
-    let z = stream-sizes width-1 (length (a .bytes .now)) (a .offset .0) (a .len .0) (a .context .0) 1 (right k .view) (right k .shape) in
-    omega (arith, z .steps-few, p .plan-of .ensures .steps)
+partial-requires : tie.Need-partial-requires
+partial-requires c κs = right (c .before .before .before) .low
+
+-- nor is the skip
+module _ (c : tie.After-partial) where
+  abbrev plan : tie.After-plan-of
+  plan = c .before .before .before
+
+  abbrev told : tie.After-enum-told
+  told = plan .before
+
+  abbrev o : tie.Start
+  o = s told
+
+  skips : ltb (many o) (o .args .skip) ≡ false
+  skips = le-ltb (many o) (o .args .skip) (omega (arith, plan .plan-of .ensures .steps))
+
+  judged : partial (many o) (o .args .context .0) (o .args .k .0) (o .args .skip) .0 ≡ c .partial .result
+  judged = sym (c .partial .ensures ∙ ap (λ (n : ℕ). partial n (o .args .context .0) (o .args .k .0) (o .args .skip) .0) (plan .plan-of .ensures .steps))
 
 returns-2 : tie.Need-returns-2
 unfolding windowsAnswer windowsOutcome
 returns-2 c =
-    let p = c .before .before .before .before in
-    let k = p .before in
-    let o = s k in
-    let q = p .plan-of .ensures .steps in
-    let h = le-ltb (many o) (o .args .skip) (omega arith) in
-    let e = second-of-two (tests o) (done k) (skips o) (room o) h (lt-ltb (o .args .room) (8 * (many o - o .args .skip)) (omega arith)) in
-    answer-refused _ NoRoom (given o) (0, 0) (sym e)
+    let k = c .before in
+    let e = first-behind (tests (o k)) (own (o k)) (done (told k)) 1 (skips k, judged k ∙ c .if2 .taken) in
+    answer-refused _ Partial (given (o k)) (0, 0) (sym e)
 
-new-requires : tie.Need-new-requires
-new-requires c κs = search needs
+mul-if3 : tie.Need-mul-if3
+mul-if3 c =
+    let k = c .before .before in
+    let a = o k .args in
+    let z = stream-sizes width-1 (length (a .bytes .now)) (a .offset .0) (a .len .0) (a .context .0) 1 (right (told k) .view) (right (told k) .shape) in
+    omega (arith, z .steps-few, plan k .plan-of .ensures .steps)
 
 returns-3 : tie.Need-returns-3
 unfolding windowsAnswer windowsOutcome
 returns-3 c =
-    let f = c .before .before .before in
-    let o = f .before .before in
-    let x = c .before .refusal .given in
-    answer-refused _ (x .0 .0) (given o) (0, 0) (first-refused (tests o) (skips o ∷ room o ∷ []) (x .0 .0) (sym (f .window-outcome .ensures) ∙ x .1))
+    let t = c .before .before in
+    let k = t .before in
+    let a = o k .args in
+    let q = plan k .plan-of .ensures .steps in
+    let room = lt-ltb (a .room) (8 * (many (o k) - a .skip)) (omega arith) in
+    let e = first-behind (tests (o k)) (own (o k)) (done (told k)) 2 (skips k, (judged k ∙ t .if2 .left, room)) in
+    answer-refused _ NoRoom (given (o k)) (0, 0) (sym e)
+
+new-requires : tie.Need-new-requires
+new-requires c κs = search needs
 
 returns-4 : tie.Need-returns-4
 unfolding windowsAnswer windowsOutcome
 returns-4 c =
-    let p = c .before .before .before .before .before in
-    let k = p .before in
-    let o = s k in
-    let q = p .plan-of .ensures .steps in
-    let h = le-ltb (many o) (o .args .skip) (omega arith) in
-    let e = none-of-two (tests o) (done k) (skips o) (room o) h (le-ltb (o .args .room) (8 * (many o - o .args .skip)) (omega arith)) in
-    answer-done _ (p .plan-of .result .steps - o .args .skip, c .new .result .0) (given o) (0, 0) (sym e) (rw (c .new .ensures, q, p .plan-of .ensures .padding))
+    let f = c .before .before .before in
+    let o = f .before .before in
+    let x = c .before .refusal .given in
+    answer-refused _ (x .0 .0) (given o) (0, 0) (first-refused (tests o) (own o) (x .0 .0) (sym (f .window-outcome .ensures) ∙ x .1))
+
+returns-5 : tie.Need-returns-5
+unfolding windowsAnswer windowsOutcome
+returns-5 c =
+    let t = c .before .before .before in
+    let k = t .before in
+    let a = o k .args in
+    let p = plan k .plan-of in
+    let q = p .ensures .steps in
+    let room = le-ltb (a .room) (8 * (many (o k) - a .skip)) (omega arith) in
+    let e = first-behind (tests (o k)) (own (o k)) (done (told k)) 3 (skips k, (judged k ∙ t .if2 .left, (room, tt))) in
+    answer-done _ (p .result .steps - a .skip, c .new .result .0) (given (o k)) (0, 0) (sym e)
+    (ap₂ (λ (x y : ℕ). (x - a .skip, y)) q (c .new .ensures ∙ p .ensures .padding))
 
 pub windows-answer-spec : {M : Type 1} → statement M
 windows-answer-spec =
@@ -118,8 +146,10 @@ windows-answer-spec =
     enum-told
     plan-of-requires
     returns
-    mul-if2
+    partial-requires
     returns-2
-    new-requires
+    mul-if3
     returns-3
-    returns-4)
+    new-requires
+    returns-4
+    returns-5)
