@@ -1,7 +1,7 @@
 -- The laws of a width: how many characters a byte holds, and how many bytes n characters take.
 -- Assumes nothing.
 use mathlib.Core.Path.{_≡_, refl, sym, ap, _∙_, subst}
-use Prim.Native.Nat.{ℕ, _+_, _-_, _*_, _/_, _%_, _^_, _≤_, _<_}
+use Prim.Native.Nat.{ℕ, zero, suc, _+_, _-_, _*_, _/_, _%_, _^_, _≤_, _<_}
 use native.Mathlib.Nat.{add-mul, mul-suc, mul-zero, zero-mul, suc-mul, mul-assoc, add-assoc, one-mul}
 use native.Mathlib.Nat.{le-trans, mul-le-mul, mul-le-mul-left, mul-le-mul-right, le-mul-of-pos-right}
 use native.Mathlib.Nat.{div-add-mod', div-mul-le-self, lt-div-mul-add, le-div-iff-mul-le, mul-add-div-right, mul-div-cancel-left}
@@ -22,6 +22,22 @@ width-1 = record { whole = refl; small = lit≤ tt }
 
 pub width-2 : IsWidth 2
 width-2 = record { whole = refl; small = lit≤ tt }
+
+-- a width is 1, 2 or 4
+pub width-cases : (P : ℕ → Type 0) → P 1 → P 2 → P 4 → (w : ℕ) → IsWidth w → P w
+width-cases P a b c zero W = absurd (omega (arith, W .whole))
+width-cases P a b c (suc zero) W = a
+width-cases P a b c (suc (suc zero)) W = b
+width-cases P a b c (suc (suc (suc zero))) W = absurd (omega (arith, W .whole))
+width-cases P a b c (suc (suc (suc (suc zero)))) W = c
+width-cases P a b c (suc (suc (suc (suc (suc n))))) W = absurd (omega (arith, W .small))
+
+-- so it is a power of two, and C8 is another
+pub width-pow : {w : ℕ} → IsWidth w → 2 ^ (w / 2) ≡ w
+width-pow {w} W = width-cases (λ v. 2 ^ (v / 2) ≡ v) refl refl refl w W
+
+pub per-shl : {w : ℕ} → IsWidth w → 1 * 2 ^ (3 - w / 2) % 2 ^ 64 ≡ per w
+per-shl {w} W = width-cases (λ v. 1 * 2 ^ (3 - v / 2) % 2 ^ 64 ≡ per v) refl refl refl w W
 
 module _ {w : ℕ} (W : IsWidth w) where
   pub per-pos : 0 < per w

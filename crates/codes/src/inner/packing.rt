@@ -25,13 +25,13 @@ pub(crate) fn pack(letters: &[u8]) -> u64
     out
 }
 
-const LETTERS: [u8; 4] = [65, 67, 84, 71];
-
-// The capital letter of the lowest base of a byte.
+// The capital letter of the lowest base of a byte: A, C and G stand two apart, and T is 15 behind its place among them. No table: the
+// compiled code would make it anew on the stack for each letter.
 pub fn low_letter(x: u8) -> u8
     ensures { λ r. ⌜ r ≡ letter (x % 4) ⌝ }
 {
-    LETTERS[(x % 4) as usize]
+    let c = x % 4;
+    65 + 2 * c + 15 * ((c / 2) & (1 - c % 2))
 }
 
 // Writes the k low bases of x as letters.

@@ -1,4 +1,5 @@
-// Single characters of a byte string. Only these functions shift within a byte.
+// Single characters of a byte string, and bytes of the characters of two. Only these functions shift within a byte.
+use crate::inner::bits::wide;
 use crate::inner::counts::byte_of;
 use crate::inner::counts::within_byte;
 use crate::letters::char_is_ambiguous;
@@ -27,6 +28,15 @@ pub fn add_digit(low: u8, w: usize, k: usize, code: u8) -> u8
     ensures { λ r. ⌜ r ≡ code * 2 ^ (w * k) + low ⌝ }
 {
     low | (code << (w * k))
+}
+
+// The low s bits of one byte under the rest of another.
+pub fn joined(low: u8, high: u8, s: usize) -> u8
+    requires { ⌜ s ≤ 8 ⌝ }
+    ensures { λ r. ⌜ r ≡ high / 2 ^ s * 2 ^ s + low % 2 ^ s ⌝ }
+{
+    let above = wide(high) >> s << s;
+    (above + wide(low) % (1 << s)) as u8
 }
 
 // Character i.
