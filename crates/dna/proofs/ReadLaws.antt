@@ -22,7 +22,7 @@ use Rattle.codes.proofs.WordLaws.{Below, length-charsOf, Below-drop}
 use Rattle.forms.specs.Reading.{filledWith}
 use Rattle.forms.proofs.NumberLaws.{Below-take}
 use Rattle.forms.proofs.WriteLaws.{zeros-on}
-use Rattle.writes.proofs.WriteLaws.{made-sets}
+use Rattle.fields.proofs.WriteLaws.{made-sets}
 use Rattle.dna.specs.Dna.{exchanged, baseAt, basesAt}
 use Rattle.dna.specs.Numbers.{numberAt}
 use Rattle.dna.proofs.DnaLaws.{under, under-pair, byte-pairs, exchange-pair}

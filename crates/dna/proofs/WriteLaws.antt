@@ -20,7 +20,7 @@ use Rattle.codes.proofs.MadeLaws.{made-to, made-parts}
 use Rattle.codes.proofs.TabLaws.{length-tab, getD-tab, tab-ext, charsOf-tab}
 use Rattle.codes.proofs.WidthLaws.{below-or, width-1, width-2}
 use Rattle.codes.proofs.WordLaws.{Below, length-charsOf}
-use Rattle.writes.proofs.WriteLaws.{made-sets}
+use Rattle.fields.proofs.WriteLaws.{made-sets}
 use Rattle.writes.proofs.LetterLaws.{map-tab}
 use Rattle.dna.specs.Dna.{exchanged, highFirst, underT, dna}
 use Rattle.dna.proofs.DnaLaws.{under, under-pair, exchange-pairs}

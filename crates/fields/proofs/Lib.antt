@@ -3,3 +3,4 @@ pub mod LoadLaws
 pub mod Lowest
 pub mod FlagLaws
 pub mod RunLaws
+pub mod WriteLaws

@@ -7,7 +7,7 @@ use native.Mathlib.Numerals.{add-one}
 use native.Mathlib.Omega.{arith}
 use lib.ListN.{length, take, getD, set, length-append}
 use lib.Seq.{sets, length-sets, take-suc, length-take-le}
-use Rattle.writes.proofs.WriteLaws.{sets-append}
+use Rattle.fields.proofs.WriteLaws.{sets-append}
 use Rattle.rows.specs.Columns.{Put}
 
 -- one more of a text's bytes

@@ -9,7 +9,7 @@ use lib.ListN.{length, set, length-append}
 use lib.Seq.{set-comm, sets, length-sets}
 use Rattle.dna.specs.Dna.{dna}
 use Rattle.fields.specs.Runs.{Run, runs}
-use Rattle.writes.proofs.WriteLaws.{sets-append}
+use Rattle.fields.proofs.WriteLaws.{sets-append}
 use Rattle.twobit.specs.Files.{spelled, each, recordOf}
 use Rattle.twobit.proofs.FileLaws.{length-spelled, length-each}
 

@@ -1,5 +1,4 @@
 pub mod LetterLaws
-pub mod WriteLaws
 pub mod ReverseLaws
 pub mod TableLaws
 pub mod Viewed

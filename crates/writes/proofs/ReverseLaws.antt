@@ -23,7 +23,7 @@ use Rattle.codes.proofs.WordLaws.{Below, flip-add, flip-lt, flip-short, flip-fi
 use Rattle.fields.specs.Fields.{flipped}
 use Rattle.writes.specs.Flips.{flippedByte}
 use Rattle.writes.specs.Writes.{flippedOver}
-use Rattle.writes.proofs.WriteLaws.{made-sets}
+use Rattle.fields.proofs.WriteLaws.{made-sets}
 
 -- the bytes that characters take, by their bits
 pub bytes-of-bits : {w : ℕ} → IsWidth w → (n : ℕ) → (w * n + 7) / 8 ≡ up w n

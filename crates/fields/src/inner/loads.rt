@@ -48,14 +48,21 @@ pub fn peek(bytes: &[u8], p: usize) -> u64
     load64(bytes, p / 8) >> (p % 8)
 }
 
+// The 64 bits from bit s of the byte at `at` on.
+pub fn word_at(bytes: &[u8], at: usize, s: usize) -> u64
+    requires { ⌜ (s < 8) × (at + 9 ≤ length (now bytes)) ⌝ }
+    ensures { λ r. ⌜ r ≡ word 8 (now (bytes .entry)) / 2 ^ (8 * at + s) % 2 ^ 64 ⌝ }
+{
+    let pair = shr_pair(load64(bytes, at), load8(bytes, at + 8), s);
+    pair.low
+}
+
 // The n bits from bit p on.
 pub fn bits_at(bytes: &[u8], p: usize, n: usize) -> u64
     requires { ⌜ (n ≤ 64) × (p / 8 + 9 ≤ length (now bytes)) ⌝ }
     ensures { λ r. ⌜ r ≡ word 8 (now (bytes .entry)) / 2 ^ p % 2 ^ n ⌝ }
 {
-    let at = p / 8;
-    let pair = shr_pair(load64(bytes, at), load8(bytes, at + 8), p % 8);
-    low_bits(pair.low, n)
+    low_bits(word_at(bytes, p / 8, p % 8), n)
 }
 
 // The n bits from bit p on, in two halves.

@@ -4,3 +4,4 @@ pub mod loads;
 pub mod parts;
 pub mod runs;
 pub mod words;
+pub mod writes;

@@ -5,6 +5,7 @@ use crate::inner::parts::view_outcome;
 use codes::inner::bits::Pair;
 use codes::inner::checks::bad_word;
 use codes::inner::checks::refuse_if;
+use codes::inner::counts::over_width;
 use codes::inner::flips::flip_low;
 use codes::inner::flips::flip_low_pair;
 use codes::refusals::Outcome;
@@ -35,7 +36,11 @@ fn word_outcome(
     ensures { λ r. ⌜ r ≡ first (wordTests w (length (now (bytes .entry))) (offset .0) (len .0) least bits) ⌝ }
 {
     let view = view_outcome(w, bytes, offset, len);
-    refuse_if(view, bad_word(least, bits / w, len), Refusal::BadWord)
+    refuse_if(
+        view,
+        bad_word(least, over_width(w, bits), len),
+        Refusal::BadWord,
+    )
 }
 
 // The word of an accepted view.

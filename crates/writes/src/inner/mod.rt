@@ -2,4 +2,3 @@
 pub mod letters;
 pub mod reverse;
 mod tables;
-pub mod writes;

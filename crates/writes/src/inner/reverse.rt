@@ -2,7 +2,6 @@
 // below a word goes by a table of the flips of bytes.
 use crate::inner::tables::base_flips;
 use crate::inner::tables::flag_flips;
-use crate::inner::writes::store64;
 use codes::inner::flips::flip_word;
 use codes::inner::tracks::zero_run;
 use codes::refusals::Outcome;
@@ -12,6 +11,7 @@ use codes::units::TRAILING;
 use fields::inner::loads::bits_at;
 use fields::inner::loads::peek;
 use fields::inner::parts::view_outcome;
+use fields::inner::writes::store64;
 ghost use mathlib.Core.Path.{_≡_};
 ghost use Prim.Native.Nat.{_+_, _-_, _*_, _/_, _%_, _^_, _≤_, _<_};
 ghost use lib.ListN.{length};

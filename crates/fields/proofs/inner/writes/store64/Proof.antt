@@ -4,10 +4,10 @@ use mathlib.Core.Path.{ap, _∙_}
 use Prim.Native.Nat.{ℕ, _+_, _/_, _^_}
 use lib.Seq.{sets}
 use Rattle.codes.specs.Words.{charsOf}
-use Rattle.writes.proofs.WriteLaws.{sets-more}
+use Rattle.fields.proofs.WriteLaws.{sets-more}
 use borrow.Author.Needs.{needs}
-use Rattle.writes.proofs.inner.writes.store64.Statement.{statement}
-use Rattle.writes.proofs.inner.writes.store64.Tie as tie
+use Rattle.fields.proofs.inner.writes.store64.Statement.{statement}
+use Rattle.fields.proofs.inner.writes.store64.Tie as tie
 
 store32-requires : tie.Need-store32-requires
 store32-requires c κs = search needs

@@ -2,8 +2,8 @@
 use mathlib.Core.Path.{refl}
 use Rattle.codes.specs.Words.{charsOf}
 use borrow.Author.Needs.{needs}
-use Rattle.writes.proofs.inner.writes.store8.Statement.{statement}
-use Rattle.writes.proofs.inner.writes.store8.Tie as tie
+use Rattle.fields.proofs.inner.writes.store8.Statement.{statement}
+use Rattle.fields.proofs.inner.writes.store8.Tie as tie
 
 cast-out : tie.Need-cast-out
 cast-out c = search needs
