@@ -4,15 +4,19 @@ use mathlib.Core.Bool.{Bool, true, false, _&&_}
 use mathlib.Core.List.{List}
 use mathlib.Core.Option.{Option, some, none}
 use mathlib.Core.Path.{_≡_, refl, sym, ap, _∙_}
-use Prim.Native.Nat.{ℕ, zero, suc, _+_, _≤_, _<_, zero-le, suc-le-suc}
+use Prim.Native.Nat.{ℕ, zero, suc, _+_, _*_, _/_, _%_, _^_, _≤_, _<_, zero-le, suc-le-suc}
 use native.Mathlib.Nat.{zero-add, suc-add, add-assoc, le-of-suc-le-suc, lt-of-lt-of-le, not-suc-le-zero}
 use native.Mathlib.Omega.{arith}
+use lib.Bits.{bitXor, xor-mod, xor-self}
 use lib.Dec.{eqb}
 use borrow.Author.Tests.{eq-eqb, eqb-true}
-use Rattle.codes.specs.Codes.{pick, charAt, tab, chars}
+use Rattle.codes.specs.Codes.{IsWidth, pick, charAt, tab, chars}
 use Rattle.codes.specs.Refusals.{answer}
 use Rattle.codes.specs.declared.refusals.Outcome.the-variants.{Done}
-use Rattle.codes.proofs.CharLaws.{getD-chars}
+use Rattle.codes.specs.Words.{word}
+use Rattle.codes.proofs.CharLaws.{getD-chars, chars-ext}
+use Rattle.codes.proofs.FieldLaws.{mod-low, word-chars}
+use Rattle.codes.proofs.WordLaws.{Below}
 use Rattle.order.specs.Order.{common, stands, oneOn, placeOf, placed}
 use Rattle.order.proofs.CommonLaws.{common-chars}
 use Rattle.order.proofs.OrderLaws.{from-zero, common-same}
@@ -102,6 +106,26 @@ module _ (w : ℕ) (t : List ℕ) (to tl : ℕ) (p : List ℕ) (po pl : ℕ) whe
   stands-short k l s =
       let e = common-chars w t (to + k) pl p po pl pl (omega arith) (omega arith) (λ i m. ap (charAt w t) (add-assoc to k i) ∙ s .1 i m) (λ h _ _. omega arith) in
       omega (arith, e)
+
+  -- where it stands, words of the text and of the pattern have the same bits, as many as the pattern has
+  pub stands-bits : IsWidth w → Below 8 t → Below 8 p → (k x y n : ℕ) → x % 2 ^ 56 ≡ word 8 t / 2 ^ (w * (to + k)) % 2 ^ 56
+      → y % 2 ^ 56 ≡ word 8 p / 2 ^ (w * po) % 2 ^ 56 → n ≤ w * pl → n ≤ 56 → Stands k → bitXor x y % 2 ^ n ≡ 0
+  stands-bits W bt bp k x y n ex ey l m s = xor-mod x y n ∙ ap (λ (z : ℕ). bitXor z (y % 2 ^ n)) same ∙ xor-self (y % 2 ^ n)
+    where
+      chars-same : chars w t (to + k) pl ≡ chars w p po pl
+      chars-same = chars-ext w t p (to + k) po pl (λ i h. ap (charAt w t) (add-assoc to k i) ∙ s .1 i h)
+
+      views-same : word 8 t / 2 ^ (w * (to + k)) % 2 ^ n ≡ word 8 p / 2 ^ (w * po) % 2 ^ n
+      views-same =
+          sym (mod-low (word 8 t / 2 ^ (w * (to + k))) n (w * pl) l)
+          ∙ ap (λ (z : ℕ). z % 2 ^ n) (sym (word-chars W t bt (to + k) pl) ∙ ap (word w) chars-same ∙ word-chars W p bp po pl)
+          ∙ mod-low (word 8 p / 2 ^ (w * po)) n (w * pl) l
+
+      low-of : (a b : ℕ) → a % 2 ^ 56 ≡ b % 2 ^ 56 → a % 2 ^ n ≡ b % 2 ^ n
+      low-of a b e = sym (mod-low a n 56 m) ∙ ap (λ (z : ℕ). z % 2 ^ n) e ∙ mod-low b n 56 m
+
+      same : x % 2 ^ n ≡ y % 2 ^ n
+      same = low-of x (word 8 t / 2 ^ (w * (to + k))) ex ∙ views-same ∙ sym (low-of y (word 8 p / 2 ^ (w * po)) ey)
 
   pub found-at : (k : ℕ) → Stands k → ((j : ℕ) → j < k → Stands j → ⊥) → answer Done (true, k) (false, 0) ≡ answer Done (placed (placeOf (chars w p po pl) (chars w t to tl))) (false, 0)
   unfolding chars

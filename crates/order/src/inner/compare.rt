@@ -4,6 +4,7 @@ use crate::answers::Order;
 use crate::inner::pairs::pair_outcome;
 use codes::inner::bits::low_bits;
 use codes::inner::bits::smaller;
+use codes::inner::counts::over_width;
 use codes::refusals::Outcome;
 use codes::units::Chars;
 use fields::inner::loads::peek;
@@ -50,7 +51,7 @@ pub(crate) fn compare_views(
     ensures common { λ r. ⌜ r .common ≡ common (chars w (now (a .entry)) ao al) (chars w (now (b .entry)) bo bl) ⌝ }
 {
     let n = smaller(al, bl);
-    let turn = 56 / w;
+    let turn = over_width(w, 56);
     let mut p = w * ao;
     let mut q = w * bo;
     let mut i: usize = 0;
@@ -59,7 +60,7 @@ pub(crate) fn compare_views(
         let y = peek(b, q);
         let z = x ^ y;
         if z % 0x100_0000_0000_0000 != 0 {
-            let k = u64::trailing_zeros(z) as usize / w;
+            let k = over_width(w, u64::trailing_zeros(z) as usize);
             let common = i + k;
             if n <= common {
                 break;

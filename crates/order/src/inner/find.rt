@@ -1,9 +1,12 @@
-// The least place of a pattern in a text: places in turn, and at each one comparison.
+// The least place of a pattern in a text: places in turn, and at each the first bits, then one comparison.
 use crate::answers::Found;
 use crate::inner::compare::compare_views;
 use crate::inner::pairs::pair_outcome;
+use codes::inner::bits::low_bits;
+use codes::inner::bits::smaller;
 use codes::refusals::Outcome;
 use codes::units::Chars;
+use fields::inner::loads::peek;
 ghost use mathlib.Core.Bool.{false};
 ghost use mathlib.Core.Path.{_≡_};
 ghost use Rattle.codes.specs.Codes.{IsWidth, chars};
@@ -12,7 +15,8 @@ ghost use Rattle.codes.specs.declared.refusals.Outcome.the-variants.{Done};
 ghost use Rattle.order.specs.Answers.{foundSays};
 ghost use Rattle.order.specs.Order.{pairOutcome, placeOf, placed, found};
 
-// The search itself: where less than the pattern is common, on to the next place; a whole match ends it.
+// The search itself: where the pattern's first bits are not there, or less than the pattern is common, on to the next place; a whole match
+// ends it. At most places the first bits, which are loaded once, decide.
 fn find_at(w: usize, t: &[u8], to: usize, tl: usize, p: &[u8], po: usize, pl: usize) -> Found
     requires { ⌜ IsWidth w ⌝ }
     requires { ⌜ pairOutcome w (now t) to tl (now p) po pl ≡ Done ⌝ }
@@ -22,9 +26,15 @@ fn find_at(w: usize, t: &[u8], to: usize, tl: usize, p: &[u8], po: usize, pl: us
         return Found::Absent;
     }
     let last = tl - pl;
+    let bits = smaller(w * pl, 56);
+    let head = peek(p, w * po);
     let mut answer = Found::Absent;
     let mut at: usize = 0;
     'places: while at <= last {
+        if low_bits(peek(t, w * (to + at)) ^ head, bits) != 0 {
+            at += 1;
+            continue 'places;
+        }
         let c = compare_views(w, t, to + at, pl, p, po, pl);
         if c.common < pl {
             at += 1;

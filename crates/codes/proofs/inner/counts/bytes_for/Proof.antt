@@ -4,7 +4,7 @@ use Prim.Native.Nat.{ℕ, _+_, _-_, _/_, _%_, _<_}
 use native.Mathlib.Nat.{mod-lt}
 use native.Mathlib.Omega.{arith}
 use borrow.Author.Needs.{needs}
-use Rattle.codes.specs.Codes.{IsWidth, per, up}
+use Rattle.codes.specs.Codes.{IsWidth, up}
 use Rattle.codes.proofs.WidthLaws.{per-pos, per-le, up-is, up-le}
 use Rattle.codes.proofs.inner.counts.bytes_for.Statement.{statement}
 use Rattle.codes.proofs.inner.counts.bytes_for.Tie as tie

@@ -1,6 +1,6 @@
 -- Every character passed is equal; the first 56 bits that differ show where, and hold the two characters there. Words may reach beyond the views.
 -- Assumes nothing.
-use Prim.Native.Nat.{ℕ, _-_, _*_, _/_, _<_}
+use Prim.Native.Nat.{ℕ, _+_, _-_, _*_, _/_, _%_, _^_, _<_, min}
 use native.Mathlib.Nat.{div-le-self, mul-div-le, le-of-lt, le-min, min-le-left, min-le-right, min-eq-left, min-eq-right}
 use native.Mathlib.Omega.{arith}
 use lib.Bits.{bitXor}
@@ -9,9 +9,8 @@ use lib.ListN.{length}
 use borrow.Author.Needs.{needs}
 use mathlib.Core.List.{[], _∷_}
 use mathlib.Core.Logic.{⊎-elim}
-use mathlib.Core.Path.{_≡_, sym, ap₂, _∙_}
+use mathlib.Core.Path.{_≡_, sym, ap, ap₂, _∙_, subst}
 use Rattle.codes.proofs.TabLaws.{Below-of}
-use Rattle.codes.proofs.WidthLaws.{width-pos}
 use Rattle.codes.specs.Codes.{chars}
 use Rattle.order.specs.Order.{compare, common}
 use Rattle.order.proofs.CommonLaws.{Two, Passed, two-few, two-starts, turn-left, turn-right, passed-none, passed-all, passed-turn, passed-found, passed-chars, differ-low}
@@ -26,23 +25,24 @@ Inv-loop w a ao al b bo bl n turn p₀ q₀ i₀ p q i = Passed w a ao b bo i p 
 abbrev μ-loop : tie.MeasureT-loop
 μ-loop w a ao al b bo bl n turn p₀ q₀ i₀ p q i = n - i
 
-two : (c : tie.After-smaller Inv-loop μ-loop)
-    → let a = c .before .before .before .args in Two (a .w) (a .a .now) (a .ao) (a .al) (a .b .now) (a .bo) (a .bl) (c .smaller .result)
+two : (c : tie.After-over-width Inv-loop μ-loop)
+    → let a = c .before .before .before .before .args in Two (a .w) (a .a .now) (a .ao) (a .al) (a .b .now) (a .bo) (a .bl) (c .before .smaller .result)
 two c =
-    let s = c .before .before .before in
+    let k = c .before in
+    let s = k .before .before .before in
     let a = s .args in
     record {
       width = s .pre .0;
-      bytes = (Below-of 8 (a .a .now) (λ i. omega (arith, c .before .before .shared-slice-known .given i)), Below-of 8 (a .b .now) (λ i. omega (arith, c .before .shared-slice-known2 .given i)));
+      bytes = (Below-of 8 (a .a .now) (λ i. omega (arith, k .before .before .shared-slice-known .given i)), Below-of 8 (a .b .now) (λ i. omega (arith, k .before .shared-slice-known2 .given i)));
       bits = pair-bits (s .pre .0) (length (a .a .now)) (a .ao) (a .al) (length (a .b .now)) (a .bo) (a .bl) (s .pre .1);
-      least = c .smaller .ensures;
+      least = k .smaller .ensures;
     }
 
 smaller-requires : tie.Need-smaller-requires Inv-loop μ-loop
 smaller-requires c κs = search needs
 
-div-turn : tie.Need-div-turn Inv-loop μ-loop
-div-turn c = width-pos (two c .width)
+over-width-requires : tie.Need-over-width-requires Inv-loop μ-loop
+over-width-requires c κs = search needs
 
 mul-p : tie.Need-mul-p Inv-loop μ-loop
 mul-p c = record { fits = omega (arith, two-starts (two c) .0) }
@@ -52,7 +52,7 @@ mul-q c = record { fits = omega (arith, two-starts (two c) .1) }
 
 loop-holds : tie.Need-loop-holds Inv-loop μ-loop
 loop-holds c =
-    let a = c .before .before .before .args in
+    let a = c .before .before .before .before .args in
     passed-none (a .w) (a .a .now) (a .ao) (a .b .now) (a .bo)
 
 peek-requires : tie.Need-peek-requires Inv-loop μ-loop
@@ -69,11 +69,11 @@ module _ (c : tie.Then1 Inv-loop μ-loop) where
   abbrev at : tie.At-loop Inv-loop μ-loop
   at = found .before .before .before
 
-  abbrev views : tie.After-smaller Inv-loop μ-loop
+  abbrev views : tie.After-over-width Inv-loop μ-loop
   views = at .before
 
   abbrev width : ℕ
-  width = views .before .before .before .args .w
+  width = views .before .before .before .before .args .w
 
   abbrev z : ℕ
   z = bitXor (found .before .peek .result) (found .peek2 .result)
@@ -84,45 +84,62 @@ module _ (c : tie.Then1 Inv-loop μ-loop) where
   shift : width * (trailingZeros 64 z / width) < 56
   shift = omega (arith, mul-div-le (trailingZeros 64 z) width, low)
 
-cast-k : tie.Need-cast-k Inv-loop μ-loop
-cast-k c = record { fits = omega (arith, low c) }
+-- the place of that character among them
+module _ (c : tie.After-over-width2 Inv-loop μ-loop) where
+  abbrev there : ℕ
+  there = c .over-width2 .result
 
-div-k : tie.Need-div-k Inv-loop μ-loop
-div-k c = width-pos (two (views c) .width)
+  few : there < 56
+  few = omega (arith, c .over-width2 .ensures, low (c .before), div-le-self (trailingZeros 64 (z (c .before))) (width (c .before)))
+
+  moved : width (c .before) * there < 56
+  moved = subst (λ (k : ℕ). width (c .before) * k < 56) (sym (c .over-width2 .ensures)) (shift (c .before))
+
+cast-over-width : tie.Need-cast-over-width Inv-loop μ-loop
+cast-over-width c = record { fits = omega (arith, low c) }
+
+over-width-requires-2 : tie.Need-over-width-requires-2 Inv-loop μ-loop
+over-width-requires-2 c κs = two (views c) .width
 
 add-common : tie.Need-add-common Inv-loop μ-loop
-add-common c = record { fits = omega (arith, two-few (two (views c)), low c, div-le-self (trailingZeros 64 (z c)) (width c)) }
+add-common c = record { fits = omega (arith, two-few (two (views (c .before))), few c) }
 
 mul-s : tie.Need-mul-s Inv-loop μ-loop
-mul-s c = record { fits = omega (arith, shift (c .before)) }
+mul-s c = record { fits = omega (arith, moved (c .before)) }
 
 shr-low-bits : tie.Need-shr-low-bits Inv-loop μ-loop
-shr-low-bits c = omega (arith, shift (c .before))
+shr-low-bits c = omega (arith, moved (c .before))
 
 low-bits-requires : tie.Need-low-bits-requires Inv-loop μ-loop
-low-bits-requires c κs = omega (arith, two (views (c .before)) .width .small)
+low-bits-requires c κs = omega (arith, two (views (c .before .before)) .width .small)
 
 shr-low-bits-2 : tie.Need-shr-low-bits-2 Inv-loop μ-loop
-shr-low-bits-2 c = omega (arith, shift (c .before .before))
+shr-low-bits-2 c = omega (arith, moved (c .before .before))
 
 low-bits-requires-2 : tie.Need-low-bits-requires-2 Inv-loop μ-loop
-low-bits-requires-2 c κs = omega (arith, two (views (c .before .before)) .width .small)
+low-bits-requires-2 c κs = omega (arith, two (views (c .before .before .before)) .width .small)
 
 order-of-requires : tie.Need-order-of-requires Inv-loop μ-loop
 order-of-requires c κs = search needs
 
 returns : tie.Need-returns Inv-loop μ-loop
 returns c =
-    let t = c .before .before .before .before in
-    let a = views t .before .before .before .args in
+    let k = c .before .before .before .before in
+    let t = k .before in
+    let a = views t .before .before .before .before .args in
     let l = at t .loop in
     let x = found t .before .peek in
     let y = found t .peek2 in
-    let e = sym (min-eq-left (le-of-lt (c .before .before .before .if2 .left))) ∙ passed-found (two (views t)) (l .inv) (x .result) (y .result) (x .ensures) (y .ensures) (t .if1 .taken) in
-    let there = passed-chars (two (views t)) (l .inv) (x .result) (y .result) (x .ensures) (y .ensures) (t .if1 .taken) in
-    let decided = ap₂ (λ (m n : ℕ). compare (m ∷ []) (n ∷ [])) (c .before .before .low-bits .ensures ∙ there .0) (c .before .low-bits2 .ensures ∙ there .1) in
+    let r = k .over-width2 .ensures in
+    let e =
+    sym (min-eq-left (le-of-lt (c .before .before .before .if2 .left)))
+    ∙ ap (λ (j : ℕ). min (l .i + j) (views t .before .smaller .result)) r
+    ∙ passed-found (two (views t)) (l .inv) (x .result) (y .result) (x .ensures) (y .ensures) (t .if1 .taken) in
+    let both = passed-chars (two (views t)) (l .inv) (x .result) (y .result) (x .ensures) (y .ensures) (t .if1 .taken) in
+    let at-k : (v : ℕ) → v / 2 ^ (a .w * there k) % 2 ^ a .w ≡ v / 2 ^ (a .w * (trailingZeros 64 (z t) / a .w)) % 2 ^ a .w = λ v. ap (λ (j : ℕ). v / 2 ^ (a .w * j) % 2 ^ a .w) r in
+    let decided = ap₂ (λ (m n : ℕ). compare (m ∷ []) (n ∷ [])) (c .before .before .low-bits .ensures ∙ at-k (x .result) ∙ both .0) (c .before .low-bits2 .ensures ∙ at-k (y .result) ∙ both .1) in
     let few = two (views t) .least in
-    let behind = order-behind (a .w) (a .a .now) (a .ao) (a .al) (a .b .now) (a .bo) (a .bl) _ e (omega (arith, few, min-le-left (a .al) (a .bl))) (omega (arith, few, min-le-right (a .al) (a .bl))) in
+    let behind = order-behind (a .w) (a .a .now) (a .ao) (a .al) (a .b .now) (a .bo) (a .bl) _ (sym (ap (λ (j : ℕ). l .i + j) r) ∙ e) (omega (arith, few, min-le-left (a .al) (a .bl), r)) (omega (arith, few, min-le-right (a .al) (a .bl), r)) in
     (c .order-of .ensures ∙ decided ∙ sym behind, e)
 
 add-p : tie.Need-add-p Inv-loop μ-loop
@@ -138,35 +155,43 @@ add-q c =
 add-i : tie.Need-add-i Inv-loop μ-loop
 add-i c =
     let s = c .before .before .before .before .before in
-    record { fits = omega (arith, two-few (two s), div-le-self 56 (s .before .before .before .args .w)) }
+    record { fits = omega (arith, two-few (two s), s .over-width .ensures, div-le-self 56 (s .before .before .before .before .args .w)) }
 
 loop-less : tie.Need-loop-less Inv-loop μ-loop
-loop-less c = omega (arith, turn-pos (two (c .before .before .before .before .before) .width))
+loop-less c =
+    let v = c .before .before .before .before .before in
+    omega (arith, v .over-width .ensures, turn-pos (two v .width))
 
 loop-again : tie.Need-loop-again Inv-loop μ-loop
 loop-again c =
     let k = c .before in
     let l = k .before .before .before in
-    passed-turn (two (l .before)) (l .loop .inv) (k .before .peek .result) (k .peek2 .result) (k .before .peek .ensures) (k .peek2 .ensures) (c .if1 .left)
+    let a = l .before .before .before .before .before .args in
+    subst (λ (n : ℕ). Passed (a .w) (a .a .now) (a .ao) (a .b .now) (a .bo) (l .loop .i + n) (l .loop .p + 56) (l .loop .q + 56)) (sym (l .before .over-width .ensures))
+    (passed-turn (two (l .before)) (l .loop .inv) (k .before .peek .result) (k .peek2 .result) (k .before .peek .ensures) (k .peek2 .ensures) (c .if1 .left))
 
 order-of-requires-2 : tie.Need-order-of-requires-2 Inv-loop μ-loop
 order-of-requires-2 c κs = search needs
 
 -- behind the loop: all that both views have is common, whether it was passed or what differs lies beyond
 ended : (c : tie.Left-loop Inv-loop μ-loop)
-    → let v = c .before .before in
+    → let v = c .before .before .before in
     let a = v .before .before .before .args in
     v .smaller .result ≡ common (chars (a .w) (a .a .now) (a .ao) (a .al)) (chars (a .w) (a .b .now) (a .bo) (a .bl))
 ended c =
     let v = two (c .before .before) in
     let i = c .before .loop .inv in
     ⊎-elim (λ h. passed-all v i (h .left))
-    (λ h. sym (min-eq-right (h .4 .taken)) ∙ passed-found v i (h .1 .result) (h .2 .result) (h .1 .ensures) (h .2 .ensures) (h .3 .taken)) (c .loop-test .came)
+    (λ h.
+    sym (min-eq-right (h .5 .taken))
+    ∙ ap (λ (j : ℕ). min (c .before .loop .i + j) (c .before .before .before .smaller .result)) (h .4 .ensures)
+    ∙ passed-found v i (h .1 .result) (h .2 .result) (h .1 .ensures) (h .2 .ensures) (h .3 .taken))
+    (c .loop-test .came)
 
 returns-2 : tie.Need-returns-2 Inv-loop μ-loop
 returns-2 c =
     let v = c .before .before .before in
-    let a = v .before .before .before .args in
+    let a = v .before .before .before .before .args in
     let ends = order-ends (a .w) (a .a .now) (a .ao) (a .al) (a .b .now) (a .bo) (a .bl) _ (ended (c .before)) (λ h l. omega (arith, two v .least, le-min h l)) in
     (c .order-of2 .ensures ∙ sym ends, ended (c .before))
 
@@ -177,14 +202,14 @@ compare-views-spec =
     Inv-loop
     μ-loop
     smaller-requires
-    div-turn
+    over-width-requires
     mul-p
     mul-q
     loop-holds
     peek-requires
     peek-requires-2
-    cast-k
-    div-k
+    cast-over-width
+    over-width-requires-2
     add-common
     mul-s
     shr-low-bits
