@@ -36,8 +36,8 @@ width-cases P a b c (suc (suc (suc (suc (suc n))))) W = absurd (omega (arith, W 
 pub width-pow : {w : ℕ} → IsWidth w → 2 ^ (w / 2) ≡ w
 width-pow {w} W = width-cases (λ v. 2 ^ (v / 2) ≡ v) refl refl refl w W
 
-pub per-shl : {w : ℕ} → IsWidth w → 1 * 2 ^ (3 - w / 2) % 2 ^ 64 ≡ per w
-per-shl {w} W = width-cases (λ v. 1 * 2 ^ (3 - v / 2) % 2 ^ 64 ≡ per v) refl refl refl w W
+pub per-pow : {w : ℕ} → IsWidth w → 2 ^ (3 - w / 2) ≡ per w
+per-pow {w} W = width-cases (λ v. 2 ^ (3 - v / 2) ≡ per v) refl refl refl w W
 
 module _ {w : ℕ} (W : IsWidth w) where
   pub per-pos : 0 < per w

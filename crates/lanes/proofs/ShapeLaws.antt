@@ -2,11 +2,12 @@
 -- Assumes nothing.
 use mathlib.Core.Bool.{_||_}
 use mathlib.Core.List.{[], _∷_}
-use mathlib.Core.Path.{_≡_}
-use Prim.Native.Nat.{ℕ, _+_, _-_, _*_, _/_, _%_, _^_, _≤_, _<_}
+use mathlib.Core.Path.{_≡_, refl, ap₂, _∙_}
+use Prim.Native.Nat.{ℕ, zero, suc, _+_, _-_, _*_, _/_, _%_, _^_, _≤_, _<_}
 use native.Mathlib.Nat.{lt-div-mul-add, div-mul-le-self, mul-le-mul, mul-pos}
 use native.Mathlib.Omega.{arith}
 use lib.Dec.{ltb}
+use lib.Pow.{pow-add}
 use borrow.Author.Tests.{ltb-false, lt-ltb, le-ltb}
 use Rattle.codes.specs.Codes.{per, IsWidth}
 use Rattle.codes.specs.Refusals.{first}
@@ -33,6 +34,16 @@ pub record Shaped (w len c f : ℕ) : Type 0 where
 
 pub group : {w : ℕ} → IsWidth w → (f : ℕ) → 1 ≤ f → f ≤ 2 → (1 ≤ f * per w) × (f * per w ≤ 16)
 group W f h l = (mul-pos h (per-pos W), mul-le-mul l (per-le W))
+
+-- the factor's group of characters is a power of two
+pub group-pow : (w f r : ℕ) → 1 ≤ f → f ≤ 2 → 2 ^ r ≡ per w → 2 ^ (f - 1 + r) ≡ f * per w
+group-pow w f r h l e = pow-add 2 (f - 1) r ∙ ap₂ (λ (a b : ℕ). a * b) (alone f h l) e
+  where
+    alone : (n : ℕ) → 1 ≤ n → n ≤ 2 → 2 ^ (n - 1) ≡ n
+    alone zero h l = absurd (omega arith)
+    alone (suc zero) h l = refl
+    alone (suc (suc zero)) h l = refl
+    alone (suc (suc (suc n))) h l = absurd (omega arith)
 
 pub shape-ranges : (c f : ℕ) → first (badShape c f ∷ []) ≡ Done → (1 ≤ c) × (c ≤ 2 ^ 31) × (1 ≤ f) × (f ≤ 2)
 shape-ranges c f e =

@@ -3,7 +3,7 @@
 use mathlib.Core.List.{List}
 use mathlib.Core.Path.{_≡_, sym, ap, ap₂, _∙_, subst}
 use Prim.Native.Nat.{ℕ, _+_, _-_, _*_, _/_, _%_, _^_, _≤_, _<_}
-use native.Mathlib.Nat.{mul-add, mul-suc, add-assoc, mul-le-mul-left, mod-lt, lt-of-lt-of-le, div-eq-of-lt, zero-div, zero-mod}
+use native.Mathlib.Nat.{mul-add, mul-suc, add-assoc, mul-le-mul-left, mod-lt, lt-of-lt-of-le, le-trans, div-eq-of-lt, zero-div, zero-mod}
 use native.Mathlib.Omega.{arith}
 use lib.ListN.{getD}
 use lib.Pow.{pow-pos, pow-mono, shr-shr}
@@ -12,7 +12,7 @@ use Rattle.codes.specs.Made.{Made}
 use Rattle.codes.specs.Words.{word}
 use Rattle.codes.proofs.FieldLaws.{field-of}
 use Rattle.codes.proofs.MadeLaws.{made-join, made-as, made-to}
-use Rattle.codes.proofs.WidthLaws.{below-or, width-pos, whole}
+use Rattle.codes.proofs.WidthLaws.{below-or, whole}
 use Rattle.codes.proofs.WordLaws.{Below}
 use Rattle.lanes.specs.Lanes.{laneEntry}
 use Rattle.lanes.specs.Turns.{Holds, turned}
@@ -43,9 +43,9 @@ module _ {w : ℕ} (W : IsWidth w) (bs : List ℕ) (bytes : Below 8 bs) (o len i
   pub holds-turn : i + 64 / w ≤ len → Holds w (chars w bs o len) i (word 8 bs / 2 ^ (w * (o + i)) % 2 ^ 64)
   holds-turn h t l = ap (λ (e : ℕ). word 8 bs / 2 ^ (w * (o + i)) % 2 ^ e / 2 ^ (w * t) % 2 ^ w) (sym (whole W 8)) ∙ field-char (64 / w) t h l
 
--- each character of a turn stands within the word
-pub turn-shift : {w : ℕ} → IsWidth w → (t count : ℕ) → t < count → w * count ≤ 64 → w * t < 64
-turn-shift {w} W t count h l = omega (arith, width-pos W, mul-suc w t, mul-le-mul-left w h)
+-- each character of a turn stands within its n bits
+pub turn-shift : {w : ℕ} → IsWidth w → (t count n : ℕ) → t < count → w * count ≤ n → w * t + w ≤ n
+turn-shift {w} W t count n h l = subst (λ (k : ℕ). k ≤ n) (mul-suc w t) (le-trans (mul-le-mul-left w h) l)
 
 -- a turn is written a step at a time
 pub turned-more : (w : ℕ) (words : List ℕ) {e : ℕ} (t : ℕ) {x y z : List ℕ} → Made (turned w words e) e (e + 8 * t) x y
@@ -58,6 +58,20 @@ turned-more w words {e} t p q =
 
     step-of : (i : ℕ) → e + 8 * t ≤ i → i < e + 8 * t + 8 → t ≡ (i - e) / 8
     step-of i h l = omega arith
+
+-- 32 bits of each word, from its character k on, give what the words give from there on
+module _ {w : ℕ} (W : IsWidth w) (words part : List ℕ) (k count e s from : ℕ) (few : w * count ≤ 32) (shift : s ≡ w * k) (place : from ≡ e + 8 * k)
+    (is : (l : ℕ) → l < 8 → getD part l 0 ≡ getD words l 0 / 2 ^ s % 2 ^ 32) where
+  pub turned-part : (q : ℕ) → from ≤ q → q < from + 8 * count → turned w part from q ≡ turned w words e q
+  turned-part q h l =
+      let t : ℕ = (q - from) / 8 in
+      let x : ℕ = getD words ((q - from) % 8) 0 in
+      let m : (q - from) % 8 ≡ (q - e) % 8 = omega arith in
+      let n : k + t ≡ (q - e) / 8 = omega arith in
+      ap (λ (y : ℕ). y / 2 ^ (w * t) % 2 ^ w) (is ((q - from) % 8) (omega arith))
+      ∙ field-of (x / 2 ^ s) (w * t) w 32 (turn-shift W t count 32 (omega arith) few)
+      ∙ ap (λ (y : ℕ). y % 2 ^ w) (shr-shr x s (w * t) ∙ ap (λ (b : ℕ). x / 2 ^ b) (ap (λ (b : ℕ). b + w * t) shift ∙ sym (mul-add w k t)))
+      ∙ ap₂ (λ (i j : ℕ). getD words i 0 / 2 ^ (w * j) % 2 ^ w) m n
 
 -- zeros before the delay
 pub filled-early : (cs : List ℕ) (n d s : ℕ) {x y : List ℕ} → s ≤ d → Made (λ j. 0) 0 (8 * s) x y → Made (laneEntry cs n d) 0 (8 * s) x y

@@ -5,12 +5,20 @@ ghost use mathlib.Core.Path.{_≡_};
 ghost use Prim.Native.Nat.{_*_, _/_, _%_, _^_, _≤_};
 ghost use Rattle.codes.specs.Codes.{IsWidth, per, up};
 
+// The power of two that C8 is.
+pub fn power(w: usize) -> usize
+    requires { ⌜ IsWidth w ⌝ }
+    ensures { λ r. ⌜ (2 ^ r ≡ per w) × (r ≤ 3) ⌝ }
+{
+    3 - w / 2
+}
+
 // C8 as a number.
 fn eighth(w: usize) -> usize
     requires { ⌜ IsWidth w ⌝ }
     ensures { λ r. ⌜ r ≡ per w ⌝ }
 {
-    1 << (3 - w / 2)
+    1 << power(w)
 }
 
 // C8, the characters of a byte.

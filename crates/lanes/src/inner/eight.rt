@@ -8,7 +8,7 @@ ghost use Rattle.codes.specs.Refusals.{first, viewTests};
 ghost use Rattle.codes.specs.declared.refusals.Outcome.the-variants.{Done};
 ghost use Rattle.lanes.specs.Lanes.{laneChar, lanes};
 
-pub(crate) fn narrow(x: u64) -> u32
+fn narrow(x: u64) -> u32
     requires { ⌜ x < 16 ⌝ }
     ensures { λ r. ⌜ r ≡ x ⌝ }
 {

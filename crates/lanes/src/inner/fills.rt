@@ -3,6 +3,7 @@ use crate::inner::shapes::plan_of;
 use crate::inner::turns::lane_words;
 use crate::inner::turns::write_turn;
 use codes::inner::bits::smaller;
+use codes::inner::counts::over_width;
 use codes::units::Chars;
 ghost use mathlib.Core.Path.{_≡_};
 ghost use Prim.Native.Nat.{_*_, _^_, _≤_};
@@ -41,7 +42,7 @@ fn fill_lanes(
     requires { ⌜ (n ≤ 2 ^ 29) × (steps ≤ 2 ^ 32) × (8 * steps ≤ length (now out)) ⌝ }
     ensures { λ _. ⌜ now (out .exit) ≡ filled (chars w (now (bytes .entry)) offset len) n d steps (now (out .entry)) ⌝ }
 {
-    let turn = 64 / w;
+    let turn = over_width(w, 64);
     let start = smaller(d, steps);
     zero_entries(out, 8 * start);
     let mut j = start;

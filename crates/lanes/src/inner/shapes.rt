@@ -1,9 +1,9 @@
 // The numbers of a stream: lane length, padding and steps, with no sum that could wrap.
-use codes::inner::counts::per_byte;
+use codes::inner::counts::power;
 use codes::units::Chars;
 ghost use mathlib.Core.List.{[], _∷_};
 ghost use mathlib.Core.Path.{_≡_};
-ghost use Prim.Native.Nat.{_+_, _/_, _≤_};
+ghost use Prim.Native.Nat.{_+_, _/_, _^_, _≤_};
 ghost use Rattle.codes.specs.Codes.{IsWidth};
 ghost use Rattle.codes.specs.Refusals.{first};
 ghost use Rattle.codes.specs.declared.refusals.Outcome.the-variants.{Done};
@@ -62,13 +62,13 @@ fn starts_of(len: usize, context: usize) -> usize
     len - context + 1
 }
 
-// The least multiple of m at or above an eighth of s.
-fn lane_of(s: usize, m: usize) -> usize
-    requires { ⌜ (1 ≤ m) × (m ≤ 16) ⌝ }
-    ensures { λ r. ⌜ r ≡ multipleAbove m ((s + 7) / 8) ⌝ }
+// The least multiple of 2 ^ e at or above an eighth of s.
+fn lane_of(s: usize, e: usize) -> usize
+    requires { ⌜ e ≤ 4 ⌝ }
+    ensures { λ r. ⌜ r ≡ multipleAbove (2 ^ e) ((s + 7) / 8) ⌝ }
 {
     let eighth = s / 8 + (s % 8 + 7) / 8;
-    (eighth + (m - 1)) / m * m
+    (eighth + ((1 << e) - 1)) >> e << e
 }
 
 fn numbers_of(w: usize, len: usize, context: usize, factor: usize) -> Plan
@@ -77,7 +77,7 @@ fn numbers_of(w: usize, len: usize, context: usize, factor: usize) -> Plan
     ensures { λ r. ⌜ Planned w len context factor r ⌝ }
 {
     let s = starts_of(len, context);
-    let n = lane_of(s, factor * per_byte(w).count());
+    let n = lane_of(s, factor - 1 + power(w));
     let behind = 8 * (n - s / 8) - s % 8;
     if len < context {
         return Plan {

@@ -1,6 +1,6 @@
 -- The invariant: the steps from the delay on, below j, are written. Assumes nothing.
 use mathlib.Core.List.{List}
-use mathlib.Core.Path.{_≡_, refl, sym, _∙_, subst}
+use mathlib.Core.Path.{_≡_, sym, ap, _∙_, subst}
 use Prim.Native.Nat.{ℕ, _-_, _*_, _/_, _≤_, _<_, min}
 use native.Mathlib.Nat.{min-le-left, min-le-right, le-min, le-trans, mul-le-mul-left, mul-div-le}
 use native.Mathlib.Omega.{arith}
@@ -8,7 +8,7 @@ use borrow.Author.Needs.{needs}
 use Rattle.codes.specs.Codes.{chars}
 use Rattle.codes.specs.Made.{Made}
 use Rattle.codes.proofs.MadeLaws.{made-none, made-on, made-to, made-is}
-use Rattle.codes.proofs.WidthLaws.{below-or, width-pos}
+use Rattle.codes.proofs.WidthLaws.{below-or}
 use Rattle.lanes.specs.Lanes.{laneEntry, filled}
 use Rattle.lanes.proofs.TurnLaws.{filled-early, filled-more, width-turn}
 use Rattle.lanes.proofs.inner.fills.fill_lanes.Statement.{statement}
@@ -20,24 +20,27 @@ Inv-loop w bytes offset len n d steps out₀ turn start j₀ out j = (start ≤ 
 abbrev μ-loop : tie.MeasureT-loop
 μ-loop w bytes offset len n d steps out₀ turn start j₀ out j = steps - j
 
-div-turn : tie.Need-div-turn Inv-loop μ-loop
-div-turn c = width-pos (c .before .before .pre .0)
+over-width-requires : tie.Need-over-width-requires Inv-loop μ-loop
+over-width-requires c κs = search needs
 
 smaller-requires : tie.Need-smaller-requires Inv-loop μ-loop
 smaller-requires c κs = search needs
 
 mul-zero-entries : tie.Need-mul-zero-entries Inv-loop μ-loop
 mul-zero-entries c =
-    omega (arith, c .before .smaller .ensures, min-le-right (c .before .before .before .before .args .d) (c .before .before .before .before .args .steps))
+    omega (arith, c .before .smaller .ensures, min-le-right (c .before .before .before .before .before .args .d) (c .before .before .before .before .before .args .steps))
 
 zero-entries-requires : tie.Need-zero-entries-requires Inv-loop μ-loop
 zero-entries-requires c κs =
-    omega (arith, c .before .smaller .ensures, min-le-right (c .before .before .before .before .args .d) (c .before .before .before .before .args .steps))
+    omega (arith, c .before .smaller .ensures, min-le-right (c .before .before .before .before .before .args .d) (c .before .before .before .before .before .args .steps))
 
 -- where the delay is over, or the steps are
 module _ (c : tie.After-slice-known2 Inv-loop μ-loop) where
   abbrev s : tie.Start Inv-loop μ-loop
-  s = c .before .before .before .before .before .before .before
+  s = c .before .before .before .before .before .before .before .before
+
+  turn-is : c .before .before .before .before .before .over-width .result ≡ 64 / s .args .w
+  turn-is = c .before .before .before .before .before .over-width .ensures
 
   abbrev start : ℕ
   start = c .before .before .before .before .smaller .result
@@ -64,7 +67,7 @@ sub-lane-words : tie.Need-sub-lane-words Inv-loop μ-loop
 sub-lane-words c = late (c .before .before) (c .before .loop .j) (c .before .loop .inv .0) (omega arith)
 
 lane-words-requires : tie.Need-lane-words-requires Inv-loop μ-loop
-lane-words-requires c κs = let s = s (c .before .before) in (s .pre .0, (s .pre .1 .0, (refl, s .pre .1 .1 .0, omega arith)))
+lane-words-requires c κs = let p = c .before .before in (s p .pre .0, (s p .pre .1 .0, (turn-is p, s p .pre .1 .1 .0, omega arith)))
 
 sub-smaller : tie.Need-sub-smaller Inv-loop μ-loop
 sub-smaller c = omega arith
@@ -86,14 +89,17 @@ module _ (c : tie.After-smaller2 Inv-loop μ-loop) where
   abbrev left : ℕ
   left = s p .args .steps - l .loop .j
 
+  count-is : c .smaller2 .result ≡ min turn left
+  count-is = c .smaller2 .ensures ∙ ap (λ (k : ℕ). min k left) (turn-is p)
+
   count-left : c .smaller2 .result ≤ turn
-  count-left = omega (arith, c .smaller2 .ensures, min-le-left turn left)
+  count-left = omega (arith, count-is, min-le-left turn left)
 
   count-right : c .smaller2 .result ≤ left
-  count-right = omega (arith, c .smaller2 .ensures, min-le-right turn left)
+  count-right = omega (arith, count-is, min-le-right turn left)
 
   forward : 0 < c .smaller2 .result
-  forward = subst (λ (x : ℕ). 0 < x) (sym (c .smaller2 .ensures)) (le-min (width-turn (s p .pre .0)) (omega arith))
+  forward = subst (λ (x : ℕ). 0 < x) (sym count-is) (le-min (width-turn (s p .pre .0)) (omega arith))
 
 mul-write-turn : tie.Need-mul-write-turn Inv-loop μ-loop
 mul-write-turn c = omega arith
@@ -140,7 +146,7 @@ fill-lanes-spec =
     (tie.spec
     Inv-loop
     μ-loop
-    div-turn
+    over-width-requires
     smaller-requires
     mul-zero-entries
     zero-entries-requires

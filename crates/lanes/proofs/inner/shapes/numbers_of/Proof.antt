@@ -1,48 +1,43 @@
 -- Each number is its formula, with no sum that could wrap. Assumes nothing.
-use mathlib.Core.Path.{_≡_, sym, ap, ap₂, _∙_, subst}
-use Prim.Native.Nat.{ℕ, _+_, _-_, _*_, _/_, _%_, _≤_}
+use mathlib.Core.Path.{_≡_, ap, ap₂, _∙_}
+use Prim.Native.Nat.{ℕ, _+_, _-_, _*_, _/_, _%_}
 use native.Mathlib.Omega.{arith}
 use borrow.Author.Needs.{needs}
 use Rattle.lanes.specs.Lanes.{multipleAbove, starts, lane, padding}
-use Rattle.lanes.proofs.ShapeLaws.{Shaped, shaped-is, shape-ranges, group, padding-is, steps-none, steps-some}
+use Rattle.lanes.proofs.ShapeLaws.{Shaped, shaped-is, shape-ranges, group-pow, padding-is, steps-none, steps-some}
 use Rattle.lanes.proofs.inner.shapes.numbers_of.Statement.{statement}
 use Rattle.lanes.proofs.inner.shapes.numbers_of.Tie as tie
 
 starts-of-requires : tie.Need-starts-of-requires
 starts-of-requires c κs = shape-ranges (c .args .context) (c .args .factor) (c .pre .1) .0
 
-per-byte-requires : tie.Need-per-byte-requires
-per-byte-requires c κs = search needs
+sub-lane-of : tie.Need-sub-lane-of
+sub-lane-of c = let s = c .before in shape-ranges (s .args .context) (s .args .factor) (s .pre .1) .2
 
-count-requires : tie.Need-count-requires
-count-requires c κs = search needs
+power-requires : tie.Need-power-requires
+power-requires c κs = search needs
 
--- the factor's group of characters
-grouped : (c : tie.After-count) → (1 ≤ c .before .before .before .args .factor * c .count .result) × (c .before .before .before .args .factor * c .count .result ≤ 16)
-grouped c =
-    let s = c .before .before .before in
-    let r = shape-ranges (s .args .context) (s .args .factor) (s .pre .1) in
-    subst (λ (x : ℕ). (1 ≤ s .args .factor * x) × (s .args .factor * x ≤ 16)) (sym (c .count .ensures ∙ c .before .per-byte .ensures)) (group (s .pre .0) (s .args .factor) (r .2) (r .3))
-
-mul-lane-of : tie.Need-mul-lane-of
-mul-lane-of c = omega (arith, grouped c .1)
+add-lane-of : tie.Need-add-lane-of
+add-lane-of c = let s = c .before .before in omega (arith, c .power .ensures .1, shape-ranges (s .args .context) (s .args .factor) (s .pre .1) .3)
 
 lane-of-requires : tie.Need-lane-of-requires
-lane-of-requires c κs = grouped c
+lane-of-requires c κs = let s = c .before .before in omega (arith, c .power .ensures .1, shape-ranges (s .args .context) (s .args .factor) (s .pre .1) .3)
 
 module _ (c : tie.After-lane-of) where
   abbrev s : tie.Start
-  s = c .before .before .before .before
+  s = c .before .before .before
 
   abbrev many : ℕ
-  many = c .before .before .before .starts-of .result
+  many = c .before .before .starts-of .result
 
   starts-is : many ≡ starts (s .args .len) (s .args .context)
-  starts-is = c .before .before .before .starts-of .ensures
+  starts-is = c .before .before .starts-of .ensures
 
   lane-is : c .lane-of .result ≡ lane (s .args .w) (s .args .len) (s .args .context) (s .args .factor)
   unfolding lane
-  lane-is = c .lane-of .ensures ∙ ap₂ (λ (x n : ℕ). multipleAbove (s .args .factor * x) ((n + 7) / 8)) (c .before .count .ensures ∙ c .before .before .per-byte .ensures) starts-is
+  lane-is =
+      let r = shape-ranges (s .args .context) (s .args .factor) (s .pre .1) in
+      c .lane-of .ensures ∙ ap₂ (λ (m n : ℕ). multipleAbove m ((n + 7) / 8)) (group-pow (s .args .w) (s .args .factor) (c .before .power .result) (r .2) (r .3) (c .before .power .ensures .0)) starts-is
 
   right : Shaped (s .args .w) (s .args .len) (s .args .context) (s .args .factor)
   right = shaped-is (s .pre .0) (s .args .len) (s .args .context) (s .args .factor) (s .pre .1)
@@ -83,9 +78,9 @@ numbers-of-spec =
     tie.close
     (tie.spec
     starts-of-requires
-    per-byte-requires
-    count-requires
-    mul-lane-of
+    sub-lane-of
+    power-requires
+    add-lane-of
     lane-of-requires
     sub-behind
     mul-behind
