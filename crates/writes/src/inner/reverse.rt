@@ -8,8 +8,8 @@ use codes::refusals::Outcome;
 use codes::refusals::Refusal;
 use codes::units::Chars;
 use codes::units::TRAILING;
-use fields::inner::loads::bits_at;
 use fields::inner::loads::peek;
+use fields::inner::loads::word_at;
 use fields::inner::parts::view_outcome;
 use fields::inner::writes::store64;
 ghost use mathlib.Core.Path.{_≡_};
@@ -31,10 +31,13 @@ fn flip_words(w: usize, bytes: &[u8], p: usize, bits: usize, out: &mut [u8])
     requires { ⌜ (p + bits < 2 ^ 32) × (p + bits + 384 ≤ 8 * length (now bytes)) × (bits ≤ 8 * length (now out)) ⌝ }
     ensures { λ _. ⌜ Made (flippedByte w (word 8 (now (bytes .entry)) / 2 ^ p) bits) 0 (bits / 64 * 8) (now (out .entry)) (now (out .exit)) ⌝ }
 {
+    // A word begins at bit s of a byte, and s is the same for all of them.
+    let s = (p + bits) % 8;
+    let mut from = (p + bits) / 8;
     let mut at: usize = 0;
     while 8 * at + 64 <= bits {
-        let x = bits_at(bytes, p + (bits - 8 * at - 64), 64);
-        store64(out, at, flip_word(w, x));
+        from -= 8;
+        store64(out, at, flip_word(w, word_at(bytes, from, s)));
         at += 8;
     }
 }
