@@ -4,6 +4,8 @@ pub mod Meaning
 pub mod ContentLaws
 pub mod RestLaws
 pub mod LineLaws
+pub mod BytewiseLaws
+pub mod MarkLaws
 pub mod LetterLaws
 pub mod PushLaws
 pub mod HoldLaws

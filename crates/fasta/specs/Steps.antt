@@ -39,6 +39,10 @@ unfoldable pub lineEnd : List ℕ → ℕ
 lineEnd [] = 0
 lineEnd (b ∷ bs) = pick (eqb b 10) 0 (suc (lineEnd bs))
 
+-- the top bit of a byte, where that is LF
+abbrev pub feedMark : ℕ → ℕ
+feedMark b = pick (eqb b 10) 128 0
+
 -- the line ends in this part
 abbrev pub endsLine : List ℕ → Bool
 endsLine part = ltb (lineEnd part) (length part)
