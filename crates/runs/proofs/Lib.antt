@@ -4,3 +4,7 @@ pub mod FreshLaws
 pub mod RoomLaws
 pub mod SeqLaws
 pub mod WrittenLaws
+pub mod BitLaws
+pub mod TurnLaws
+pub mod FlagLaws
+pub mod LetterRunLaws

@@ -5,8 +5,8 @@ use native.Mathlib.Omega.{arith}
 use Rattle.codes.specs.Made.{Made}
 use Rattle.codes.proofs.MadeLaws.{made-none, made-more, made-to}
 use Rattle.runs.specs.Bytes.{lettersWord}
-use Rattle.runs.proofs.inner.whole.flags_run.Statement.{statement}
-use Rattle.runs.proofs.inner.whole.flags_run.Tie as tie
+use Rattle.runs.proofs.inner.whole.flags_bytes.Statement.{statement}
+use Rattle.runs.proofs.inner.whole.flags_bytes.Tie as tie
 
 abbrev Inv-loop : tie.InvT-loop
 Inv-loop buffer₀ from to letters first j₀ i₀ buffer j i =
@@ -45,8 +45,8 @@ same-length c = c .before .loop .inv .3 .long
 returns : tie.Need-returns Inv-loop μ-loop
 returns c = made-to (c .before .loop .inv .3) (omega arith)
 
-pub flags-run-spec : {M : Type 1} → statement M
-flags-run-spec =
+pub flags-bytes-spec : {M : Type 1} → statement M
+flags-bytes-spec =
     tie.close
     (tie.spec
     Inv-loop

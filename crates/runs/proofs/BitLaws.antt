@@ -1,0 +1,67 @@
+-- A number bit by bit: the bits of what `&`, `|` and the shifts make, and a number as the word of its bits.
+-- Assumes nothing.
+use mathlib.Core.List.{List}
+use mathlib.Core.Path.{_≡_, sym, ap, _∙_}
+use Prim.Native.Nat.{ℕ, suc, _+_, _-_, _*_, _/_, _%_, _^_, _≤_, _<_, min, max}
+use native.Mathlib.Nat.{add-sub-of-le, mul-assoc, one-mul, mod-lt, mod-eq-of-lt}
+use native.Mathlib.Omega.{arith}
+use lib.Arith.{digits-mod}
+use lib.Bits.{bitAnd, bitOr, and-shr, or-shr, and-step, or-step, shifted-even}
+use lib.Dec.{lit<}
+use lib.ListN.{getD}
+use lib.Pow.{pow-add, shr-shr, shl-shr}
+use Rattle.codes.specs.Codes.{tab}
+use Rattle.codes.specs.Words.{word}
+use Rattle.codes.proofs.FieldLaws.{field-of}
+use Rattle.codes.proofs.TabLaws.{getD-tab, tab-ext, charsOf-tab}
+use Rattle.codes.proofs.WordLaws.{word-charsOf}
+
+-- bit j of x
+abbrev pub bit : ℕ → ℕ → ℕ
+bit x j = x / 2 ^ j % 2
+
+pub bit-lt : (x j : ℕ) → bit x j < 2
+bit-lt x j = mod-lt (x / 2 ^ j) (lit< tt)
+
+pub bit-and : (a b j : ℕ) → bit (bitAnd a b) j ≡ min (bit a j) (bit b j)
+bit-and a b j =
+    ap (λ (x : ℕ). x % 2) (and-shr a b j ∙ and-step (a / 2 ^ j) (b / 2 ^ j))
+    ∙ digits-mod (bitAnd (a / 2 ^ j / 2) (b / 2 ^ j / 2)) (omega (arith, bit-lt a j, bit-lt b j))
+
+pub bit-or : (a b j : ℕ) → bit (bitOr a b) j ≡ max (bit a j) (bit b j)
+bit-or a b j =
+    ap (λ (x : ℕ). x % 2) (or-shr a b j ∙ or-step (a / 2 ^ j) (b / 2 ^ j))
+    ∙ digits-mod (bitOr (a / 2 ^ j / 2) (b / 2 ^ j / 2)) (omega (arith, bit-lt a j, bit-lt b j))
+
+pub bit-shr : (x s j : ℕ) → bit (x / 2 ^ s) j ≡ bit x (s + j)
+bit-shr x s j = ap (λ (y : ℕ). y % 2) (shr-shr x s j)
+
+-- a bit from s places below
+pub bit-shl : (x s j : ℕ) → s ≤ j → bit (x * 2 ^ s) j ≡ bit x (j - s)
+bit-shl x s j h =
+    ap (λ (y : ℕ). y % 2)
+    (ap (λ (e : ℕ). x * 2 ^ s / 2 ^ e) (sym (add-sub-of-le h)) ∙ sym (shr-shr (x * 2 ^ s) s (j - s)) ∙ ap (λ (y : ℕ). y / 2 ^ (j - s)) (shl-shr x s))
+
+-- and zeros at the bottom
+pub bit-shl-low : (x s j : ℕ) → j < s → bit (x * 2 ^ s) j ≡ 0
+bit-shl-low x s j h =
+    let t : ℕ = s - suc j in
+    let e : s ≡ suc t + j = omega arith in
+    ap (λ (y : ℕ). y / 2 ^ j % 2) (ap (λ (n : ℕ). x * 2 ^ n) e ∙ ap (λ (y : ℕ). x * y) (pow-add 2 (suc t) j) ∙ sym (mul-assoc x (2 ^ suc t) (2 ^ j)))
+    ∙ ap (λ (y : ℕ). y % 2) (shl-shr (x * 2 ^ suc t) j)
+    ∙ shifted-even x t
+
+-- the bits of a machine word
+pub bit-mod : (x m j : ℕ) → j < m → bit (x % 2 ^ m) j ≡ bit x j
+bit-mod x m j h = field-of x j 1 m (omega arith)
+
+-- a number is the word of its bits
+pub bits-word : (n x : ℕ) (f : ℕ → ℕ) → x < 2 ^ n → ((j : ℕ) → j < n → bit x j ≡ f j) → x ≡ word 1 (tab n f)
+bits-word n x f l h =
+    sym (ap (λ (e : ℕ). x % 2 ^ e) (one-mul n) ∙ mod-eq-of-lt l)
+    ∙ sym (word-charsOf 1 n x)
+    ∙ ap (word 1) (charsOf-tab 1 n x ∙ tab-ext n (λ i. x / 2 ^ (1 * i) % 2 ^ 1) f (λ j m. ap (λ (e : ℕ). x / 2 ^ e % 2) (one-mul j) ∙ h j m))
+
+-- a rule at each of n places, by one test that antt computes
+pub tab-at : (n : ℕ) (f g : ℕ → ℕ) → tab n f ≡ tab n g → (i : ℕ) → i < n → f i ≡ g i
+tab-at n f g e i h = sym (getD-tab n f i h) ∙ ap (λ (l : List ℕ). getD l i 0) e ∙ getD-tab n g i h
