@@ -52,6 +52,15 @@ module _ {f : ℕ → ℕ} {from : ℕ} {d : List ℕ} where
   pub made-on : {mid to : ℕ} {e x : List ℕ} → Made f from mid d e → Made f mid to e x → from ≤ mid → mid ≤ to → Made f from to d x
   made-on z y a b = made-join z y a b (λ j h l q. refl)
 
+  -- a second run by the same rule, that begins within the first
+  pub made-over : {a mid to : ℕ} {e x : List ℕ} → Made f from mid d e → Made f a to e x → from ≤ a → a ≤ mid → mid ≤ to → Made f from to d x
+  made-over {a} z y l m n = record {
+    long = y .long ∙ z .long;
+    below = λ j h. y .below j (omega arith) ∙ z .below j h;
+    new = λ j h k. below-or j a (λ b. y .below j b ∙ z .new j h (omega arith)) (λ b. y .new j b k);
+    above = λ j h. y .above j h ∙ z .above j (omega arith);
+  }
+
   -- the same run by another rule
   pub made-as : {to : ℕ} {g : ℕ → ℕ} {e : List ℕ} → Made g from to d e → ((j : ℕ) → from ≤ j → j < to → g j ≡ f j) → Made f from to d e
   made-as z s = record { long = z .long; below = z .below; new = λ j h l. z .new j h l ∙ s j h l; above = z .above }

@@ -21,6 +21,10 @@ getD-tab zero f i h = absurd (not-suc-le-zero h)
 getD-tab (suc n) f zero h = refl
 getD-tab (suc n) f (suc i) h = getD-tab n (λ i. f (suc i)) i (le-of-suc-le-suc h)
 
+-- a rule at each of n places, by one test that is computed
+pub tab-at : (n : ℕ) (f g : ℕ → ℕ) → tab n f ≡ tab n g → (i : ℕ) → i < n → f i ≡ g i
+tab-at n f g e i h = sym (getD-tab n f i h) ∙ ap (λ (l : List ℕ). getD l i 0) e ∙ getD-tab n g i h
+
 pub tab-ext : (n : ℕ) (f g : ℕ → ℕ) → ((i : ℕ) → i < n → f i ≡ g i) → tab n f ≡ tab n g
 unfolding tab
 tab-ext zero f g h = refl

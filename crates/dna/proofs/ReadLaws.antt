@@ -9,7 +9,7 @@ use native.Mathlib.Omega.{arith}
 use borrow.Author.Tests.{lt-ltb, le-ltb}
 use lib.Dec.{eqb, ltb, lit<}
 use lib.ListN.{length, getD, take, drop, List·getD-eq-default}
-use lib.Pow.{pow-pos, pow-mono, shr-shr}
+use lib.Pow.{pow-pos, pow-mono}
 use lib.Seq.{sets, getD-take, getD-drop}
 use Rattle.codes.specs.Codes.{up, trailing, pick, tab, charAt}
 use Rattle.codes.specs.Made.{Made}
@@ -29,15 +29,7 @@ use Rattle.dna.proofs.DnaLaws.{under, under-pair, byte-pairs, exchange-
 
 -- ---- a file read by words
 
--- the bytes of eight that were loaded, and of k
-pub loaded-byte : (s : List ℕ) → Below 8 s → (at x : ℕ) → x ≡ word 8 s / 2 ^ (8 * at) % 2 ^ 64 → (b : ℕ) → b < 8 → x / 2 ^ (8 * b) % 2 ^ 8 ≡ getD s (at + b) 0
-loaded-byte s f at x e b h =
-    let p : 8 * at + 8 * b ≡ 8 * (at + b) = omega arith in
-    ap (λ (y : ℕ). y / 2 ^ (8 * b) % 2 ^ 8) e
-    ∙ field-of (word 8 s / 2 ^ (8 * at)) (8 * b) 8 64 (omega arith)
-    ∙ ap (λ (y : ℕ). y % 2 ^ 8) (shr-shr (word 8 s) (8 * at) (8 * b) ∙ ap (λ (y : ℕ). word 8 s / 2 ^ y) p)
-    ∙ word-at 8 s f (at + b)
-
+-- the bytes of k that were loaded
 pub loaded-some : (s : List ℕ) → Below 8 s → (at k x : ℕ) → x ≡ numberAt false k s at → (b : ℕ) → b < k → x / 2 ^ (8 * b) % 2 ^ 8 ≡ getD s (at + b) 0
 unfolding numberAt
 loaded-some s f at k x e b h =

@@ -1,18 +1,16 @@
--- Words of characters: what goes character by character, the bytes of a word that was loaded, and the zeros below a shifted number.
+-- Words of characters: what goes character by character, and the zeros below a shifted number.
 -- Assumes nothing.
 use mathlib.Core.List.{List, [], _∷_, map}
 use mathlib.Core.Path.{_≡_, refl, sym, ap, ap₂, _∙_}
-use Prim.Native.Nat.{ℕ, zero, suc, _+_, _*_, _/_, _%_, _^_, _<_}
+use Prim.Native.Nat.{ℕ, zero, suc, _+_, _*_, _^_, _<_}
 use native.Mathlib.Nat.{add-mul, zero-add, mul-one}
 use native.Mathlib.Omega.{arith}
 use lib.Bits.{shifted-half, shifted-even}
 use lib.Count.{trailingZeros, under}
-use lib.ListN.{length, getD}
-use lib.Pow.{shr-shr}
+use lib.ListN.{length}
 use Rattle.codes.specs.Words.{word, charsOf}
 use Rattle.codes.proofs.Net.{rep}
-use Rattle.codes.proofs.TabLaws.{getD-tab, charsOf-tab, word-at}
-use Rattle.codes.proofs.WordLaws.{Below, length-charsOf, charsOf-fit, charsOf-mod}
+use Rattle.codes.proofs.WordLaws.{Below, length-charsOf, charsOf-fit}
 
 -- f takes characters of w bits to such
 abbrev pub Fits : ℕ → (ℕ → ℕ) → Type 0
@@ -52,16 +50,6 @@ pub word-same : (w : ℕ) (f g : ℕ → ℕ) → ((c : ℕ) → c < 2 ^ w → f
 unfolding word
 word-same w f g e [] h = refl
 word-same w f g e (c ∷ cs) h = ap₂ (λ (x y : ℕ). x * 2 ^ w + y) (word-same w f g e cs (h .1)) (e c (h .0))
-
--- byte j of eight that were loaded
-pub loaded : (s : List ℕ) → Below 8 s → (at x : ℕ) → x ≡ word 8 s / 2 ^ (8 * at) % 2 ^ 64 → (j : ℕ) → j < 8 → getD (charsOf 8 8 x) j 0 ≡ getD s (at + j) 0
-loaded s b at x e j l =
-    let y : ℕ = word 8 s / 2 ^ (8 * at) in
-    let p : 8 * at + 8 * j ≡ 8 * (at + j) = omega arith in
-    ap (λ (t : List ℕ). getD t j 0) (ap (charsOf 8 8) e ∙ charsOf-mod 8 8 y ∙ charsOf-tab 8 8 y)
-    ∙ getD-tab 8 (λ i. y / 2 ^ (8 * i) % 2 ^ 8) j l
-    ∙ ap (λ (n : ℕ). n % 2 ^ 8) (shr-shr (word 8 s) (8 * at) (8 * j) ∙ ap (λ (n : ℕ). word 8 s / 2 ^ n) p)
-    ∙ word-at 8 s b (at + j)
 
 -- the zeros below a number that is shifted up by j
 pub zeros-shifted : (j k n : ℕ) → trailingZeros (j + k) (n * 2 ^ j) ≡ j + trailingZeros k n

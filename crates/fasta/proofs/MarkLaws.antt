@@ -14,11 +14,12 @@ use lib.ListN.{length, getD}
 use Rattle.codes.specs.Codes.{tab}
 use Rattle.codes.specs.Words.{word, charsOf, same}
 use Rattle.codes.proofs.Net.{rep}
-use Rattle.codes.proofs.TabLaws.{getD-tab}
+use Rattle.codes.proofs.TabLaws.{tab-at}
 use Rattle.codes.proofs.WidthLaws.{below-or}
 use Rattle.codes.proofs.WordLaws.{Below, length-charsOf, word-charsOf, charsOf-fit}
+use Rattle.fields.proofs.LoadLaws.{loaded-char}
 use Rattle.fasta.specs.Steps.{lineEnd, feedMark}
-use Rattle.fasta.proofs.BytewiseLaws.{Fits, add-block, word-both, word-with, word-same, loaded, zeros-shifted}
+use Rattle.fasta.proofs.BytewiseLaws.{Fits, add-block, word-both, word-with, word-same, zeros-shifted}
 use Rattle.fasta.proofs.LineLaws.{line-end-is, line-end}
 
 -- ---- the marks, made
@@ -60,7 +61,7 @@ unfolding tab
 bytes-right = refl
 
 byte-right : (b : ℕ) → b < 2 ^ 8 → bitXor (top b) 128 ≡ feedMark b
-byte-right b h = sym (getD-tab 256 (λ i. bitXor (top i) 128) b h) ∙ ap (λ (t : List ℕ). getD t b 0) bytes-right ∙ getD-tab 256 feedMark b h
+byte-right = tab-at 256 (λ b. bitXor (top b) 128) feedMark bytes-right
 
 module _ (x : ℕ) (small : x < 2 ^ 64) where
   abbrev each : (ℕ → ℕ) → ℕ
@@ -137,7 +138,7 @@ module _ (part : List ℕ) (b : Below 8 part) (i x z : ℕ) (ex : x ≡ word 8 p
       (λ h.
       let s : i + (k - i) ≡ k = omega arith in
       line-end eight .before (k - i) (omega arith)
-      (loaded part b i x ex (k - i) (omega (arith, line-end eight .inside, length-charsOf 8 8 x)) ∙ ap (λ (n : ℕ). getD part n 0) s ∙ e))
+      (loaded-char part b i x ex (k - i) (omega (arith, line-end eight .inside, length-charsOf 8 8 x)) ∙ ap (λ (n : ℕ). getD part n 0) s ∙ e))
 
   -- none is marked: no line feed among them
   pub none-marked : z ≡ 0 → (k : ℕ) → k < i + 8 → getD part k 0 ≡ 10 → ⊥
@@ -154,5 +155,5 @@ module _ (part : List ℕ) (b : Below 8 part) (i x z : ℕ) (ex : x ≡ word 8 p
       ∙ line-end-is part (i + lineEnd eight) record {
         inside = omega arith;
         before = passed;
-        found = λ _. sym (loaded part b i x ex (lineEnd eight) (omega arith)) ∙ line-end eight .found within;
+        found = λ _. sym (loaded-char part b i x ex (lineEnd eight) (omega arith)) ∙ line-end eight .found within;
       }

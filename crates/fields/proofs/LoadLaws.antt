@@ -1,4 +1,4 @@
--- Where a view's bits and words stand in its bytes, and what its word's length may be.
+-- Where a view's bits and words stand in its bytes, what its word's length may be, and the bytes of a word that was loaded.
 -- Assumes nothing.
 use mathlib.Core.List.{List, [], _∷_}
 use mathlib.Core.Path.{_≡_, sym, ap, ap₂, _∙_, subst₂}
@@ -6,15 +6,17 @@ use Prim.Native.Nat.{ℕ, _+_, _*_, _/_, _%_, _^_, _≤_, _<_, zero-le}
 use native.Mathlib.Nat.{add-zero, mul-add, mul-left-comm, mul-comm, mul-le-mul-left, le-trans, mul-div-le}
 use native.Mathlib.Omega.{arith}
 use lib.ListN.{length, getD}
+use lib.Pow.{shr-shr}
 use Rattle.codes.specs.Codes.{per, IsWidth, chars, trailing}
 use Rattle.codes.specs.Refusals.{first, badWord, viewTests}
 use Rattle.codes.specs.declared.refusals.Outcome.the-variants.{Done}
-use Rattle.codes.specs.Words.{word}
-use Rattle.codes.proofs.FieldLaws.{word-chars}
+use Rattle.codes.specs.Words.{word, charsOf}
+use Rattle.codes.proofs.FieldLaws.{field-of, word-chars}
 use Rattle.codes.proofs.OutcomeLaws.{first-both, passed}
 use Rattle.codes.proofs.RefusalLaws.{word-in}
-use Rattle.codes.proofs.TabLaws.{Below-of}
+use Rattle.codes.proofs.TabLaws.{Below-of, getD-tab, charsOf-tab, word-at}
 use Rattle.codes.proofs.WidthLaws.{below-or, whole}
+use Rattle.codes.proofs.WordLaws.{Below}
 use Rattle.fields.specs.Fields.{wordTests}
 use Rattle.fields.proofs.ViewLaws.{view-accepted, room-sum}
 
@@ -64,3 +66,16 @@ word-open w n o len least bits e =
     let b = first-both (viewTests w n o len) (badWord least (bits / w) len ∷ []) e in
     let i = word-in least (bits / w) len (passed _ _ _ (b .1) .0) in
     record { view = b .0; low = i .0; fits = le-trans (mul-le-mul-left w (i .1)) (mul-div-le bits w) }
+
+-- byte b of eight that were loaded, and the same among the characters of the word
+pub loaded-byte : (s : List ℕ) → Below 8 s → (at x : ℕ) → x ≡ word 8 s / 2 ^ (8 * at) % 2 ^ 64 → (b : ℕ) → b < 8 → x / 2 ^ (8 * b) % 2 ^ 8 ≡ getD s (at + b) 0
+loaded-byte s f at x e b h =
+    let p : 8 * at + 8 * b ≡ 8 * (at + b) = omega arith in
+    ap (λ (y : ℕ). y / 2 ^ (8 * b) % 2 ^ 8) e
+    ∙ field-of (word 8 s / 2 ^ (8 * at)) (8 * b) 8 64 (omega arith)
+    ∙ ap (λ (y : ℕ). y % 2 ^ 8) (shr-shr (word 8 s) (8 * at) (8 * b) ∙ ap (λ (y : ℕ). word 8 s / 2 ^ y) p)
+    ∙ word-at 8 s f (at + b)
+
+pub loaded-char : (s : List ℕ) → Below 8 s → (at x : ℕ) → x ≡ word 8 s / 2 ^ (8 * at) % 2 ^ 64 → (b : ℕ) → b < 8 → getD (charsOf 8 8 x) b 0 ≡ getD s (at + b) 0
+loaded-char s f at x e b h =
+    ap (λ (t : List ℕ). getD t b 0) (charsOf-tab 8 8 x) ∙ getD-tab 8 (λ i. x / 2 ^ (8 * i) % 2 ^ 8) b h ∙ loaded-byte s f at x e b h

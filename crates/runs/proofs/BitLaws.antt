@@ -1,6 +1,5 @@
 -- A number bit by bit: the bits of what `&`, `|` and the shifts make, and a number as the word of its bits.
 -- Assumes nothing.
-use mathlib.Core.List.{List}
 use mathlib.Core.Path.{_≡_, sym, ap, _∙_}
 use Prim.Native.Nat.{ℕ, suc, _+_, _-_, _*_, _/_, _%_, _^_, _≤_, _<_, min, max}
 use native.Mathlib.Nat.{add-sub-of-le, mul-assoc, one-mul, mod-lt, mod-eq-of-lt}
@@ -8,12 +7,11 @@ use native.Mathlib.Omega.{arith}
 use lib.Arith.{digits-mod}
 use lib.Bits.{bitAnd, bitOr, and-shr, or-shr, and-step, or-step, shifted-even}
 use lib.Dec.{lit<}
-use lib.ListN.{getD}
 use lib.Pow.{pow-add, shr-shr, shl-shr}
 use Rattle.codes.specs.Codes.{tab}
 use Rattle.codes.specs.Words.{word}
 use Rattle.codes.proofs.FieldLaws.{field-of}
-use Rattle.codes.proofs.TabLaws.{getD-tab, tab-ext, charsOf-tab}
+use Rattle.codes.proofs.TabLaws.{tab-ext, charsOf-tab}
 use Rattle.codes.proofs.WordLaws.{word-charsOf}
 
 -- bit j of x
@@ -61,7 +59,3 @@ bits-word n x f l h =
     sym (ap (λ (e : ℕ). x % 2 ^ e) (one-mul n) ∙ mod-eq-of-lt l)
     ∙ sym (word-charsOf 1 n x)
     ∙ ap (word 1) (charsOf-tab 1 n x ∙ tab-ext n (λ i. x / 2 ^ (1 * i) % 2 ^ 1) f (λ j m. ap (λ (e : ℕ). x / 2 ^ e % 2) (one-mul j) ∙ h j m))
-
--- a rule at each of n places, by one test that antt computes
-pub tab-at : (n : ℕ) (f g : ℕ → ℕ) → tab n f ≡ tab n g → (i : ℕ) → i < n → f i ≡ g i
-tab-at n f g e i h = sym (getD-tab n f i h) ∙ ap (λ (l : List ℕ). getD l i 0) e ∙ getD-tab n g i h

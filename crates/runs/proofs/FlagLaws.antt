@@ -13,9 +13,9 @@ use lib.Pow.{pow-mono}
 use Rattle.codes.specs.Codes.{pick, charAt, tab, code}
 use Rattle.codes.specs.Words.{word}
 use Rattle.codes.proofs.FieldLaws.{charAt-is}
-use Rattle.codes.proofs.TabLaws.{getD-tab, Below-of}
+use Rattle.codes.proofs.TabLaws.{getD-tab, Below-of, tab-at}
 use Rattle.codes.proofs.WidthLaws.{below-or, width-1}
-use Rattle.runs.proofs.BitLaws.{bit, bit-or, bit-shr, bit-shl, bit-shl-low, bit-mod, bits-word, tab-at}
+use Rattle.runs.proofs.BitLaws.{bit, bit-or, bit-shr, bit-shl, bit-shl-low, bit-mod, bits-word}
 
 -- 1 where bit 2 is set and bit 1 is clear, as in T and U
 abbrev tee : ℕ → ℕ

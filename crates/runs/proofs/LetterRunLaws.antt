@@ -1,4 +1,4 @@
--- Bytes of letters alone, stored eight at a time: a byte of a word of letters, a run that grows by such a word, and a run that begins within another.
+-- Bytes of letters alone, stored eight at a time: a byte of a word of letters, and a run that grows by such a word.
 -- Assumes nothing.
 use mathlib.Core.List.{List}
 use mathlib.Core.Path.{_≡_, sym, ap, ap₂, _∙_, subst}
@@ -14,7 +14,6 @@ use Rattle.codes.specs.Words.{word, charsOf}
 use Rattle.codes.proofs.CodeLaws.{code-lt}
 use Rattle.codes.proofs.MadeLaws.{made-to}
 use Rattle.codes.proofs.TabLaws.{getD-tab, tab-ext, Below-tab, word-at, charsOf-tab}
-use Rattle.codes.proofs.WidthLaws.{below-or}
 use Rattle.codes.proofs.WordLaws.{word-charsOf, length-charsOf}
 use Rattle.fields.proofs.WriteLaws.{made-sets}
 use Rattle.runs.specs.Bytes.{lettersWord}
@@ -64,12 +63,3 @@ module _ {w : ℕ} (W : IsWidth w) (ls : List ℕ) where
         ∙ letters-byte (first + (j - from) * per w) i k
         ∙ ap (lettersWord w (per w) ls) (add-assoc first ((j - from) * per w) (i * per w) ∙ ap (λ (p : ℕ). first + p) (sym (ap (λ (p : ℕ). p * per w) n ∙ add-mul (j - from) i (per w))))))
         (ap (λ (n : ℕ). j + n) (length-charsOf 8 8 x)))
-
--- a second run by the same rule, that begins within the first
-pub made-over : {f : ℕ → ℕ} {from a mid to : ℕ} {d e x : List ℕ} → Made f from mid d e → Made f a to e x → from ≤ a → a ≤ mid → mid ≤ to → Made f from to d x
-made-over {a = a} z y l m n = record {
-  long = y .long ∙ z .long;
-  below = λ j h. y .below j (omega arith) ∙ z .below j h;
-  new = λ j h k. below-or j a (λ b. y .below j b ∙ z .new j h (omega arith)) (λ b. y .new j b k);
-  above = λ j h. y .above j h ∙ z .above j (omega arith);
-}

@@ -10,7 +10,8 @@ use lib.Bits.{bitAnd, bitOr}
 use lib.Dec.{eqb}
 use Rattle.codes.specs.Codes.{pick, tab}
 use Rattle.codes.proofs.WidthLaws.{below-or}
-use Rattle.runs.proofs.BitLaws.{bit, bit-lt, bit-and, bit-or, bit-shr, bit-shl, bit-shl-low, bit-mod, tab-at}
+use Rattle.codes.proofs.TabLaws.{tab-at}
+use Rattle.runs.proofs.BitLaws.{bit, bit-lt, bit-and, bit-or, bit-shr, bit-shl, bit-shl-low, bit-mod}
 
 -- a stage: the bits of `keep` stay, those of `low` go up by `by`, and what stands `by` above them comes down
 pub record Stage : Type 0 where

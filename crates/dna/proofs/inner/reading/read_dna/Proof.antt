@@ -11,7 +11,8 @@ use Rattle.codes.specs.Words.{word}
 use Rattle.codes.proofs.MadeLaws.{made-none}
 use Rattle.codes.proofs.TabLaws.{Below-of}
 use Rattle.codes.proofs.WordLaws.{Below}
-use Rattle.dna.proofs.ReadLaws.{held, heldByte, loaded-byte, loaded-some, read-held, cleared-held, held-turn, held-all}
+use Rattle.fields.proofs.LoadLaws.{loaded-byte}
+use Rattle.dna.proofs.ReadLaws.{held, heldByte, loaded-some, read-held, cleared-held, held-turn, held-all}
 use Rattle.dna.proofs.WriteLaws.{low-flags, flag-bits, put-sets}
 use Rattle.dna.proofs.inner.reading.read_dna.Statement.{statement}
 use Rattle.dna.proofs.inner.reading.read_dna.Tie as tie

@@ -4,10 +4,10 @@ use Prim.Native.Nat.{_+_, _-_, _*_, _≤_}
 use native.Mathlib.Nat.{le-refl}
 use native.Mathlib.Omega.{arith}
 use Rattle.codes.specs.Made.{Made}
-use Rattle.codes.proofs.MadeLaws.{made-none, made-to}
+use Rattle.codes.proofs.MadeLaws.{made-none, made-to, made-over}
 use Rattle.codes.proofs.WidthLaws.{width-1}
 use Rattle.runs.specs.Bytes.{lettersWord}
-use Rattle.runs.proofs.LetterRunLaws.{letters-more, made-over}
+use Rattle.runs.proofs.LetterRunLaws.{letters-more}
 use Rattle.runs.proofs.inner.whole.flags_words.Statement.{statement}
 use Rattle.runs.proofs.inner.whole.flags_words.Tie as tie
 
