@@ -1,5 +1,7 @@
 pub mod WholeLaws
 pub mod SpliceLaws
+pub mod JoinLaws
+pub mod CopyLaws
 pub mod FreshLaws
 pub mod RoomLaws
 pub mod SeqLaws

@@ -1,17 +1,38 @@
-// Bytes that new letters share with what stands there: made anew, character by character.
+// Bytes that new characters share with what stands there: joined with it, or made anew character by character.
 use codes::inner::counts::chars_in;
 use codes::inner::counts::per_byte;
 use codes::inner::tracks::add_digit;
 use codes::inner::tracks::code_of;
 use codes::inner::tracks::digit;
+use codes::inner::tracks::joined;
 use codes::units::Bytes;
 ghost use mathlib.Core.List.{map};
 ghost use mathlib.Core.Path.{_≡_};
-ghost use Prim.Native.Nat.{_+_, _^_, _≤_, _<_};
-ghost use lib.ListN.{length};
+ghost use Prim.Native.Nat.{_+_, _*_, _/_, _%_, _^_, _≤_, _<_};
+ghost use lib.ListN.{length, getD};
 ghost use Rattle.codes.specs.Codes.{IsWidth, per, code};
 ghost use Rattle.codes.specs.Made.{Made};
 ghost use Rattle.runs.specs.Bytes.{freshChar, freshByte, anew};
+
+// Byte b: the characters of `low` below character k, then its own.
+pub(crate) fn join_below(buffer: &mut [u8], w: usize, b: usize, k: usize, low: u8)
+    requires { ⌜ IsWidth w ⌝ }
+    requires { ⌜ (b < length (now buffer)) × (k ≤ per w) ⌝ }
+    ensures { λ _. ⌜ Made (λ j. getD (now (buffer .entry)) j 0 / 2 ^ (w * k) * 2 ^ (w * k) + low % 2 ^ (w * k)) b (b + 1)
+        (now (buffer .entry)) (now (buffer .exit)) ⌝ }
+{
+    buffer[b] = joined(low, buffer[b], w * k);
+}
+
+// Byte b: its own characters below character k, then those of `high`.
+pub(crate) fn join_above(buffer: &mut [u8], w: usize, b: usize, k: usize, high: u8)
+    requires { ⌜ IsWidth w ⌝ }
+    requires { ⌜ (b < length (now buffer)) × (k ≤ per w) ⌝ }
+    ensures { λ _. ⌜ Made (λ j. high / 2 ^ (w * k) * 2 ^ (w * k) + getD (now (buffer .entry)) j 0 % 2 ^ (w * k)) b (b + 1)
+        (now (buffer .entry)) (now (buffer .exit)) ⌝ }
+{
+    buffer[b] = joined(buffer[b], high, w * k);
+}
 
 // Character k of a byte, at place i: a letter's code or 0 from `at` up to `stop`, else the old one.
 fn fresh_char(old: u8, w: usize, k: usize, i: usize, at: usize, letters: &[u8], stop: usize) -> u8

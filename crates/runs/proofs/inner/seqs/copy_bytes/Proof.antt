@@ -1,36 +1,22 @@
 -- The invariant: the bytes up to j are copied, and byte i of the view is next. Assumes nothing.
-use mathlib.Core.Path.{_≡_, ap, _∙_}
+use mathlib.Core.Path.{_≡_, ap}
 use Prim.Native.Nat.{ℕ, _+_, _-_, _≤_}
 use native.Mathlib.Omega.{arith}
-use borrow.Author.Needs.{needs}
 use lib.ListN.{getD}
-use Rattle.codes.specs.Codes.{up}
 use Rattle.codes.specs.Made.{Made}
 use Rattle.codes.proofs.MadeLaws.{made-none, made-more, made-to}
-use Rattle.runs.proofs.inner.seqs.copy_run.Statement.{statement}
-use Rattle.runs.proofs.inner.seqs.copy_run.Tie as tie
+use Rattle.runs.proofs.inner.seqs.copy_bytes.Statement.{statement}
+use Rattle.runs.proofs.inner.seqs.copy_bytes.Tie as tie
 
 abbrev Inv-loop : tie.InvT-loop
-Inv-loop buffer₀ w from to view offset j₀ i₀ buffer j i =
-    (from ≤ j) × (j ≤ to) × (i ≡ up w offset + (j - from)) × Made (λ b. getD view (up w offset + (b - from)) 0) from j buffer₀ buffer
+Inv-loop buffer₀ from to view lead j₀ i₀ buffer j i =
+    (from ≤ j) × (j ≤ to) × (i ≡ lead + (j - from)) × Made (λ b. getD view (lead + (b - from)) 0) from j buffer₀ buffer
 
 abbrev μ-loop : tie.MeasureT-loop
-μ-loop buffer₀ w from to view offset j₀ i₀ buffer j i = to - j
-
-new-requires : tie.Need-new-requires Inv-loop μ-loop
-new-requires c κs = search needs
-
-bytes-for-requires : tie.Need-bytes-for-requires Inv-loop μ-loop
-bytes-for-requires c κs = c .before .before .before .pre .0
-
-count-requires : tie.Need-count-requires Inv-loop μ-loop
-count-requires c κs = search needs
+μ-loop buffer₀ from to view lead j₀ i₀ buffer j i = to - j
 
 loop-holds : tie.Need-loop-holds Inv-loop μ-loop
-loop-holds c =
-    let a = c .before .before .before .before .before .args in
-    let e : c .count .result ≡ up (a .w) (a .offset) = c .count .ensures ∙ c .before .bytes-for .ensures ∙ ap (up (a .w)) (c .before .before .new .ensures) in
-    (omega arith, omega arith, omega arith, made-none (omega arith))
+loop-holds c = (omega arith, omega arith, omega arith, made-none (omega arith))
 
 shared-slice-read-buffer : tie.Need-shared-slice-read-buffer Inv-loop μ-loop
 shared-slice-read-buffer c = omega arith
@@ -50,7 +36,7 @@ loop-less c = omega arith
 loop-again : tie.Need-loop-again Inv-loop μ-loop
 loop-again c =
     let l = c .before .before .loop in
-    let a = c .before .before .before .before .before .before .before .before .args in
+    let a = c .before .before .before .args in
     (omega arith, omega arith, omega arith, made-more (l .inv .3) (omega arith) (omega arith) (ap (λ (x : ℕ). getD (a .view .now) x 0) (l .inv .2)))
 
 same-length : tie.Need-same-length Inv-loop μ-loop
@@ -59,15 +45,12 @@ same-length c = c .before .loop .inv .3 .long
 returns : tie.Need-returns Inv-loop μ-loop
 returns c = made-to (c .before .loop .inv .3) (omega arith)
 
-pub copy-run-spec : {M : Type 1} → statement M
-copy-run-spec =
+pub copy-bytes-spec : {M : Type 1} → statement M
+copy-bytes-spec =
     tie.close
     (tie.spec
     Inv-loop
     μ-loop
-    new-requires
-    bytes-for-requires
-    count-requires
     loop-holds
     shared-slice-read-buffer
     slice-write-buffer
