@@ -16,7 +16,7 @@ use Rattle.codes.proofs.WordLaws.{length-charsOf, charsOf-mod}
 use Rattle.fields.proofs.WriteLaws.{made-sets}
 
 -- a second run by the same rule, which may overlap the first
-pub made-over : {f : ℕ → ℕ} {from mid at to : ℕ} {d e x : List ℕ} → Made f from mid d e → Made f at to e x → from ≤ at → at ≤ mid → mid ≤ to → Made f from to d x
+made-over : {f : ℕ → ℕ} {from mid at to : ℕ} {d e x : List ℕ} → Made f from mid d e → Made f at to e x → from ≤ at → at ≤ mid → mid ≤ to → Made f from to d x
 made-over {at = at} z y a b c = record {
   long = y .long ∙ z .long;
   below = λ j h. y .below j (omega arith) ∙ z .below j h;

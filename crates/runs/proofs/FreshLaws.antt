@@ -81,14 +81,13 @@ module _ {w : ℕ} (W : IsWidth w) (d : List ℕ) (at : ℕ) (cs : List ℕ) (st
         (λ m. below-or j u (λ n. z .new j m n ∙ fresh-is j) (λ n. z .above j n ∙ sym (kept-above j (le-trans s (mul-le-mul-right (per w) n)))))
         ∙ sym (getD-pack w (length d) char j (omega (arith, z .long))))
 
-    -- three runs up to there, the second by a rule of its own
-    pub made-three : {first mid to last : ℕ} {g : ℕ → ℕ} {e f x : List ℕ}
-        → Made (anew w d at cs stop) first mid d e → Made g mid to e f → Made (anew w f at cs stop) to last f x
-        → first ≡ at / per w → first ≤ mid → mid ≤ to → to ≤ last → stop ≤ last * per w
-        → ((j : ℕ) → mid ≤ j → j < to → g j ≡ anew w e at cs stop j) → x ≡ spliced w d at cs stop
-    made-three {e = e} {f} p q r i a b c s h =
+    -- three runs up to there, each made of the buffer as it is
+    pub made-three : {first mid to last : ℕ} {e f x : List ℕ}
+        → Made (anew w d at cs stop) first mid d e → Made (anew w e at cs stop) mid to e f → Made (anew w f at cs stop) to last f x
+        → first ≡ at / per w → first ≤ mid → mid ≤ to → to ≤ last → stop ≤ last * per w → x ≡ spliced w d at cs stop
+    made-three {e = e} {f} p q r i a b c s =
         let same = anew-same w at cs stop d in
-        made-splice (made-join (made-join p q a b (λ j l m o. h j l m ∙ same e j o)) r (le-trans a b) c (λ j l m o. same f j o)) i s
+        made-splice (made-join (made-join p q a b (λ j l m o. same e j o)) r (le-trans a b) c (λ j l m o. same f j o)) i s
 
 -- a byte of new letters alone
 pub whole-fresh : (w old at : ℕ) (ls : List ℕ) (stop b : ℕ) → at ≤ b * per w → b * per w + per w ≤ stop → b * per w - at + per w ≤ length ls

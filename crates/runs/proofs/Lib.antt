@@ -2,6 +2,7 @@ pub mod WholeLaws
 pub mod SpliceLaws
 pub mod JoinLaws
 pub mod CopyLaws
+pub mod LetterLaws
 pub mod FreshLaws
 pub mod RoomLaws
 pub mod SeqLaws

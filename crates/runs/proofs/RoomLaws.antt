@@ -1,14 +1,12 @@
--- The laws of room: how many characters fit a buffer that is not too long, and the order of a run's bounds.
+-- The laws of room: how many characters fit a buffer that is not too long, and which byte a character stands in.
 -- Assumes nothing.
-use mathlib.Core.Path.{_≡_, sym, ap, _∙_, subst}
+use mathlib.Core.Path.{_≡_, sym, ap, _∙_}
 use Prim.Native.Nat.{ℕ, _+_, _-_, _*_, _/_, _%_, _^_, _≤_, _<_}
-use native.Mathlib.Nat.{le-refl, le-trans, le-div-iff-mul-le, div-mul-le-self, div-eq-of-lt, mod-lt, one-mul, suc-mul, mul-le-mul-right}
+use native.Mathlib.Nat.{le-trans, le-div-iff-mul-le, div-mul-le-self, div-eq-of-lt, mod-lt, one-mul, suc-mul, mul-le-mul-right}
 use native.Mathlib.Omega.{arith}
 use lib.Arith.{digits-div}
 use Rattle.codes.specs.Codes.{IsWidth, per, up}
-use Rattle.codes.proofs.WidthLaws.{below-or, per-pos, up-is, up-hi, up-mono, chars-bound}
-use Rattle.runs.specs.Bytes.{Bounded}
-use Rattle.runs.specs.declared.inner.bounds.Bounds.{Bounds}
+use Rattle.codes.proofs.WidthLaws.{below-or, per-pos, up-is, up-hi, chars-bound}
 
 -- characters in their order stand in bytes in their order
 pub byte-order : (a b p i k : ℕ) → k ≤ p → a * p + i < b * p + k → a ≤ b
@@ -21,7 +19,7 @@ module _ {w : ℕ} (W : IsWidth w) where
   pub div-up : (a n : ℕ) → a ≤ n → a / per w ≤ up w n
   div-up a n h = le-div-iff-mul-le (per-pos W) .1 (omega (arith, div-mul-le-self a (per w)))
 
-  -- the byte of the last of n characters, where it is part of a byte, and where they end with one
+  -- the bytes of n characters that end within a byte, and of those that end with one
   pub up-part : (n : ℕ) → 0 < n % per w → up w n ≡ n / per w + 1
   up-part n h =
       let e : n % per w + (per w - 1) ≡ 1 * per w + (n % per w - 1) = omega (arith, one-mul (per w), per-pos W) in
@@ -29,19 +27,3 @@ module _ {w : ℕ} (W : IsWidth w) where
 
   pub up-full : (n : ℕ) → n % per w ≡ 0 → up w n ≡ n / per w
   up-full n h = sym (up-is W n) ∙ omega (arith, div-eq-of-lt {n = n % per w + (per w - 1)} {m = per w} (omega (arith, per-pos W)))
-
--- the bounds of a run in their order, and its whole bytes within its end
-pub record Ends (w end : ℕ) (b : Bounds) : Type 0 where
-  pub first-from : b .first ≤ b .from
-  pub from-last : b .from ≤ b .last
-  pub to-last : b .to ≤ b .last
-  pub to-end : b .to * per w ≤ end
-
-pub ends : {w : ℕ} → IsWidth w → (start at end : ℕ) (b : Bounds) → start ≤ at → at ≤ end → Bounded w start at end b → Ends w end b
-ends {w} W start at end b h l k =
-    record {
-      first-from = omega (arith, k .first, k .from, div-up W start at h);
-      from-last = omega (arith, k .from, k .last, up-mono W at end l);
-      to-last = omega (arith, k .to, k .last, div-up W end end (le-refl end));
-      to-end = subst (λ (x : ℕ). x * per w ≤ end) (sym (k .to)) (div-mul-le-self end (per w));
-    }

@@ -1,4 +1,4 @@
--- How a run is made, byte by byte: a byte made anew, a byte of letters alone, and where a run and a view stand.
+-- How a run is made, byte by byte: a byte made anew, a byte of letters alone, and where a view stands.
 -- Assumes nothing.
 use mathlib.Core.List.{List}
 use mathlib.Core.Path.{_≡_}
@@ -7,7 +7,6 @@ use lib.ListN.{getD}
 use Rattle.codes.specs.Codes.{per, tab, code, up}
 use Rattle.codes.specs.Words.{word}
 use Rattle.runs.specs.Runs.{seqStart, seqChars, splice}
-use Rattle.runs.specs.declared.inner.bounds.Bounds.{Bounds}
 use Rattle.runs.specs.declared.inner.seqs.Place.{Place}
 
 -- character k of a byte made anew, at place i: `splice` over the old byte's own
@@ -25,13 +24,6 @@ anew w d at cs stop b = freshByte w (getD d b 0) at cs stop b
 -- the number of n letters' codes from letter i on
 unfoldable pub lettersWord : ℕ → ℕ → List ℕ → ℕ → ℕ
 lettersWord w n letters i = word w (tab n (λ k. code w (getD letters (i + k) 0)))
-
--- the bounds of a run from character `start` up to character `end`, whose bytes are whole from character `at` on
-pub record Bounded (w start at end : ℕ) (b : Bounds) : Type 0 where
-  pub first : b .first ≡ start / per w
-  pub from : b .from ≡ up w at
-  pub to : b .to ≡ end / per w
-  pub last : b .last ≡ up w end
 
 -- a view of k bytes: its n characters from o on go to `start`, behind len characters
 pub record Placed (w len start o n k : ℕ) : Type 0 where

@@ -1,4 +1,7 @@
 // Bytes that new characters share with what stands there: joined with it, or made anew character by character.
+use crate::inner::whole::bases4;
+use crate::inner::whole::flags8;
+use codes::inner::bits::wide;
 use codes::inner::counts::chars_in;
 use codes::inner::counts::per_byte;
 use codes::inner::tracks::add_digit;
@@ -8,11 +11,11 @@ use codes::inner::tracks::joined;
 use codes::units::Bytes;
 ghost use mathlib.Core.List.{map};
 ghost use mathlib.Core.Path.{_≡_};
-ghost use Prim.Native.Nat.{_+_, _*_, _/_, _%_, _^_, _≤_, _<_};
+ghost use Prim.Native.Nat.{_+_, _-_, _*_, _/_, _%_, _^_, _≤_, _<_};
 ghost use lib.ListN.{length, getD};
 ghost use Rattle.codes.specs.Codes.{IsWidth, per, code};
 ghost use Rattle.codes.specs.Made.{Made};
-ghost use Rattle.runs.specs.Bytes.{freshChar, freshByte, anew};
+ghost use Rattle.runs.specs.Bytes.{freshChar, freshByte, anew, lettersWord};
 
 // Byte b: the characters of `low` below character k, then its own.
 pub(crate) fn join_below(buffer: &mut [u8], w: usize, b: usize, k: usize, low: u8)
@@ -32,6 +35,36 @@ pub(crate) fn join_above(buffer: &mut [u8], w: usize, b: usize, k: usize, high: 
         (now (buffer .entry)) (now (buffer .exit)) ⌝ }
 {
     buffer[b] = joined(buffer[b], high, w * k);
+}
+
+// The codes of the eight letters from letter i on, as one number.
+fn eight(w: usize, letters: &[u8], i: usize) -> u64
+    requires { ⌜ IsWidth w ⌝ }
+    requires { ⌜ (w ≤ 2) × (i + 8 ≤ length (now letters)) ⌝ }
+    ensures { λ r. ⌜ r ≡ lettersWord w 8 (now (letters .entry)) i ⌝ }
+{
+    if w == 2 {
+        return wide(bases4(letters, i)) + wide(bases4(letters, i + 4)) * 0x100;
+    }
+    wide(flags8(letters, i))
+}
+
+// The first letters from character k of a byte on.
+pub(crate) fn first_letters(w: usize, letters: &[u8], k: usize) -> u8
+    requires { ⌜ IsWidth w ⌝ }
+    requires { ⌜ (w ≤ 2) × (8 ≤ length (now letters)) × (k ≤ per w) ⌝ }
+    ensures { λ r. ⌜ r ≡ lettersWord w 8 (now (letters .entry)) 0 * 2 ^ (w * k) % 2 ^ 8 ⌝ }
+{
+    ((eight(w, letters, 0) << (w * k)) % 0x100) as u8
+}
+
+// The last n letters, at most eight, from the first character of a byte on.
+pub(crate) fn last_letters(w: usize, letters: &[u8], n: usize) -> u8
+    requires { ⌜ IsWidth w ⌝ }
+    requires { ⌜ (w ≤ 2) × (8 ≤ length (now letters)) × (n ≤ 8) ⌝ }
+    ensures { λ r. ⌜ r ≡ lettersWord w 8 (now (letters .entry)) (length (now (letters .entry)) - 8) / 2 ^ (w * (8 - n)) % 2 ^ 8 ⌝ }
+{
+    ((eight(w, letters, letters.len() - 8) >> (w * (8 - n))) % 0x100) as u8
 }
 
 // Character k of a byte, at place i: a letter's code or 0 from `at` up to `stop`, else the old one.

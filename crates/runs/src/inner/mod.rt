@@ -1,5 +1,4 @@
 // Functions with the width as a number, which ask something of their callers.
-pub mod bounds;
 pub mod edges;
 pub mod seqs;
 pub mod whole;

@@ -17,7 +17,7 @@ fn bases2(letters: &[u8], i: usize) -> u8
     pack_char_lossy(letters[i]) + pack_char_lossy(letters[i + 1]) * 4
 }
 
-fn bases4(letters: &[u8], i: usize) -> u8
+pub(crate) fn bases4(letters: &[u8], i: usize) -> u8
     requires { ⌜ i + 4 ≤ length (now letters) ⌝ }
     ensures { λ r. ⌜ r ≡ lettersWord 2 4 (now (letters .entry)) i ⌝ }
 {
@@ -38,7 +38,7 @@ fn flags4(letters: &[u8], i: usize) -> u8
     flags2(letters, i) + flags2(letters, i + 2) * 4
 }
 
-fn flags8(letters: &[u8], i: usize) -> u8
+pub(crate) fn flags8(letters: &[u8], i: usize) -> u8
     requires { ⌜ i + 8 ≤ length (now letters) ⌝ }
     ensures { λ r. ⌜ r ≡ lettersWord 1 8 (now (letters .entry)) i ⌝ }
 {

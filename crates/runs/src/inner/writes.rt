@@ -1,11 +1,17 @@
-// New letters in a buffer: the bytes at both ends character by character, those between by four or eight letters.
-use crate::inner::bounds::bounds_of;
+// New letters in a buffer: by four or eight letters, the bytes at both ends joined with what stands there; a few character by character.
 use crate::inner::edges::edge_run;
+use crate::inner::edges::first_letters;
+use crate::inner::edges::join_above;
+use crate::inner::edges::join_below;
+use crate::inner::edges::last_letters;
 use crate::inner::whole::bases_run;
 use crate::inner::whole::flags_run;
+use codes::inner::counts::byte_of;
 use codes::inner::counts::bytes_for;
 use codes::inner::counts::chars_in;
+use codes::inner::counts::within_byte;
 use codes::inner::tracks::zero_run;
+use codes::units::Bytes;
 use codes::units::Chars;
 use codes::units::TRAILING;
 ghost use mathlib.Core.List.{map};
@@ -41,6 +47,42 @@ fn whole_run(
     }
 }
 
+// What `fill_letters` says, character by character.
+fn fill_few(buffer: &mut [u8], w: usize, at: usize, letters: &[u8], stop: usize)
+    requires { ⌜ IsWidth w ⌝ }
+    requires { ⌜ length (now buffer) ≤ 2 ^ 28 ⌝ }
+    requires { ⌜ up w (at + length (now letters)) ≤ length (now buffer) ⌝ }
+    requires { ⌜ (at + length (now letters) ≤ stop) × (stop ≤ up w (at + length (now letters)) * per w) ⌝ }
+    ensures { λ _. ⌜ now (buffer .exit) ≡ spliced w (now (buffer .entry)) at (map (code w) (now (letters .entry))) stop ⌝ }
+{
+    let first = byte_of(w, Chars::new(at)).count();
+    let last = bytes_for(w, Chars::new(at + letters.len())).count();
+    edge_run(buffer, w, first, last, at, letters, stop)
+}
+
+// The same for eight letters or more, of bases or flags.
+fn fill_many(buffer: &mut [u8], w: usize, at: usize, letters: &[u8], stop: usize)
+    requires { ⌜ IsWidth w ⌝ }
+    requires { ⌜ (w ≤ 2) × (8 ≤ length (now letters)) ⌝ }
+    requires { ⌜ length (now buffer) ≤ 2 ^ 28 ⌝ }
+    requires { ⌜ up w (at + length (now letters)) ≤ length (now buffer) ⌝ }
+    requires { ⌜ (at + length (now letters) ≤ stop) × (stop ≤ up w (at + length (now letters)) * per w) ⌝ }
+    ensures { λ _. ⌜ now (buffer .exit) ≡ spliced w (now (buffer .entry)) at (map (code w) (now (letters .entry))) stop ⌝ }
+{
+    let start = Chars::new(at);
+    let end = Chars::new(at + letters.len());
+    let b = byte_of(w, start).count();
+    let k = within_byte(w, start).count();
+    let to = byte_of(w, end).count();
+    let r = within_byte(w, end).count();
+    join_above(buffer, w, b, k, first_letters(w, letters, k));
+    whole_run(buffer, w, b + 1, to, at, letters, stop);
+    if 0 < r {
+        let rest = stop - chars_in(w, Bytes::new(to)).count();
+        join_below(buffer, w, to, rest, last_letters(w, letters, r))
+    }
+}
+
 // The letters' codes at `at`, then zeros up to `stop`, which stands in the byte of the last letter or at its end.
 pub fn fill_letters(buffer: &mut [u8], w: usize, at: usize, letters: &[u8], stop: usize)
     requires { ⌜ IsWidth w ⌝ }
@@ -49,14 +91,12 @@ pub fn fill_letters(buffer: &mut [u8], w: usize, at: usize, letters: &[u8], stop
     requires { ⌜ (at + length (now letters) ≤ stop) × (stop ≤ up w (at + length (now letters)) * per w) ⌝ }
     ensures { λ _. ⌜ now (buffer .exit) ≡ spliced w (now (buffer .entry)) at (map (code w) (now (letters .entry))) stop ⌝ }
 {
-    let end = at + letters.len();
-    let b = bounds_of(w, at, at, end);
-    if b.from < b.to {
-        edge_run(buffer, w, b.first, b.from, at, letters, stop);
-        whole_run(buffer, w, b.from, b.to, at, letters, stop);
-        edge_run(buffer, w, b.to, b.last, at, letters, stop);
+    if letters.len() < 8 {
+        fill_few(buffer, w, at, letters, stop)
+    } else if 2 < w {
+        fill_few(buffer, w, at, letters, stop)
     } else {
-        edge_run(buffer, w, b.first, b.last, at, letters, stop);
+        fill_many(buffer, w, at, letters, stop)
     }
 }
 

@@ -114,7 +114,7 @@ returns c =
     let k = o g in
     made-three (W k) _ _ _ _ (bytes k) (gap-run g) (v .fill-view .ensures) (made-none (le-refl (k .count2 .result))) refl
     (omega (arith, first-is k, div-up (W k) (p k .len) (p k .len) (le-refl (p k .len))))
-    (le-of-lt (t .if1 .taken)) (le-refl (k .count2 .result)) (le-of-eq (ap (λ (x : ℕ). x * per (w k)) (sym (last-is k)))) (λ j h l. refl)
+    (le-of-lt (t .if1 .taken)) (le-refl (k .count2 .result)) (le-of-eq (ap (λ (x : ℕ). x * per (w k)) (sym (last-is k))))
 
 same-length-2 : tie.Need-same-length-2
 same-length-2 c = search needs
