@@ -100,17 +100,17 @@ whole-fresh w old at ls stop b h s l =
     ∙ getD-codes w ls (b * per w + k - at) (omega arith)
     ∙ ap (λ (x : ℕ). code w (getD ls x 0)) (omega arith)))
 
--- a run of new letters alone, where the width is known
-module _ {w v : ℕ} (known : w ≡ v) where
-  pub whole-room : {at from to n : ℕ} → at ≤ from * per w → to * per w ≤ at + n → from ≤ to → (at ≤ from * per v) × (from * per v - at + (to - from) * per v ≤ n)
-  whole-room {at} {from} {to} {n} h l o =
+-- a run of new letters alone
+module _ (w : ℕ) {at from to : ℕ} (ls : List ℕ) (h : at ≤ from * per w) (l : to * per w ≤ at + length ls) where
+  pub whole-room : from ≤ to → from * per w - at + (to - from) * per w ≤ length ls
+  whole-room o =
       let m : to * per w ≡ from * per w + (to - from) * per w = ap (λ (x : ℕ). x * per w) (omega arith) ∙ add-mul from (to - from) (per w) in
-      subst (λ (x : ℕ). (at ≤ from * per x) × (from * per x - at + (to - from) * per x ≤ n)) known (h, omega arith)
+      omega arith
 
-  pub made-whole : {at stop from to : ℕ} {d e : List ℕ} (ls : List ℕ) → Made (λ j. lettersWord v (per v) ls (from * per v - at + (j - from) * per v)) from to d e
-      → at ≤ from * per w → to * per w ≤ at + length ls → to * per w ≤ stop → Made (anew w d at (map (code w) ls) stop) from to d e
-  made-whole {at} {stop} {from} {to} {d} {e} ls z h l s =
-      made-as (subst (λ (x : ℕ). Made (λ j. lettersWord x (per x) ls (from * per x - at + (j - from) * per x)) from to d e) (sym known) z)
+  pub made-whole : {stop : ℕ} {d e : List ℕ} → Made (λ j. lettersWord w (per w) ls (from * per w - at + (j - from) * per w)) from to d e
+      → to * per w ≤ stop → Made (anew w d at (map (code w) ls) stop) from to d e
+  made-whole {stop} {d} z s =
+      made-as z
       (λ j a b.
       let p : ℕ = per w in
       let m : j * p ≡ from * p + (j - from) * p = ap (λ (x : ℕ). x * p) (omega arith) ∙ add-mul from (j - from) p in

@@ -16,34 +16,26 @@ use codes::units::Chars;
 use codes::units::TRAILING;
 ghost use mathlib.Core.List.{map};
 ghost use mathlib.Core.Path.{_≡_};
-ghost use Prim.Native.Nat.{_+_, _*_, _^_, _≤_};
+ghost use Prim.Native.Nat.{_+_, _-_, _*_, _^_, _≤_};
 ghost use lib.ListN.{length};
 ghost use Rattle.codes.specs.Codes.{IsWidth, per, up, trailing, code};
 ghost use Rattle.codes.specs.Made.{Made};
-ghost use Rattle.runs.specs.Bytes.{anew};
+ghost use Rattle.runs.specs.Bytes.{lettersWord};
 ghost use Rattle.runs.specs.Runs.{spliced, written};
 
 // The bytes from byte `from` up to byte `to`, which hold new letters alone.
-fn whole_run(
-    buffer: &mut [u8],
-    w: usize,
-    from: usize,
-    to: usize,
-    at: usize,
-    letters: &[u8],
-    stop: usize,
-)
+fn whole_run(buffer: &mut [u8], w: usize, from: usize, to: usize, at: usize, letters: &[u8])
     requires { ⌜ IsWidth w ⌝ }
+    requires { ⌜ w ≤ 2 ⌝ }
     requires { ⌜ (from ≤ to) × (to ≤ length (now buffer)) × (length (now buffer) ≤ 2 ^ 28) ⌝ }
-    requires { ⌜ (at ≤ from * per w) × (to * per w ≤ at + length (now letters)) × (to * per w ≤ stop) ⌝ }
-    ensures { λ _. ⌜ Made (anew w (now (buffer .entry)) at (map (code w) (now (letters .entry))) stop) from to (now (buffer .entry)) (now (buffer .exit)) ⌝ }
+    requires { ⌜ (at ≤ from * per w) × (to * per w ≤ at + length (now letters)) ⌝ }
+    ensures { λ _. ⌜ Made (λ j. lettersWord w (per w) (now (letters .entry)) (from * per w - at + (j - from) * per w)) from to
+        (now (buffer .entry)) (now (buffer .exit)) ⌝ }
 {
     if w == 2 {
         bases_run(buffer, from, to, letters, from * 4 - at)
-    } else if w == 1 {
-        flags_run(buffer, from, to, letters, from * 8 - at)
     } else {
-        edge_run(buffer, w, from, to, at, letters, stop)
+        flags_run(buffer, from, to, letters, from * 8 - at)
     }
 }
 
@@ -76,7 +68,7 @@ fn fill_many(buffer: &mut [u8], w: usize, at: usize, letters: &[u8], stop: usize
     let to = byte_of(w, end).count();
     let r = within_byte(w, end).count();
     join_above(buffer, w, b, k, first_letters(w, letters, k));
-    whole_run(buffer, w, b + 1, to, at, letters, stop);
+    whole_run(buffer, w, b + 1, to, at, letters);
     if 0 < r {
         let rest = stop - chars_in(w, Bytes::new(to)).count();
         join_below(buffer, w, to, rest, last_letters(w, letters, r))

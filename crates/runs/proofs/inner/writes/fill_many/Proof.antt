@@ -1,5 +1,5 @@
 -- The byte of `at`, the whole bytes and the byte of the end are one run, and all else stays. Assumes nothing.
-use mathlib.Core.List.{map}
+use mathlib.Core.List.{List, map}
 use mathlib.Core.Path.{_≡_, sym, ap, _∙_, subst}
 use Prim.Native.Nat.{ℕ, _+_, _-_, _*_, _/_, _%_, _≤_, _<_}
 use native.Mathlib.Nat.{le-refl, mod-lt, suc-mul, mul-le-mul-right, div-mul-le-self}
@@ -11,7 +11,7 @@ use Rattle.codes.specs.Made.{Made}
 use Rattle.codes.proofs.MadeLaws.{made-none}
 use Rattle.codes.proofs.WidthLaws.{per-pos, per-le}
 use Rattle.runs.specs.Bytes.{anew}
-use Rattle.runs.proofs.FreshLaws.{made-three}
+use Rattle.runs.proofs.FreshLaws.{made-three, made-whole}
 use Rattle.runs.proofs.LetterLaws.{made-first, made-last, first-next, first-behind}
 use Rattle.runs.proofs.RoomLaws.{div-up, up-part, up-full}
 use Rattle.runs.proofs.inner.writes.fill_many.Statement.{statement}
@@ -116,6 +116,12 @@ module _ (c : tie.After-whole-run) where
       made-first (W o) (s o .args .at) (s o .args .letters .now) (s o .args .stop) (eight o) (k-is o) (j .before .first-letters .ensures) (b-is o)
       (omega (arith, suc-mul (b o) (per (w o)), next-to o, to-end o, stops o)) (λ i. c .before .before .slice-known2 .given i .fits) (j .join-above .ensures)
 
+  abbrev d : List ℕ
+  d = j .join-above .last .0
+
+  whole-run : Made (anew (w o) d (s o .args .at) (map (code (w o)) (s o .args .letters .now)) (s o .args .stop)) (b o + 1) (to o) d (c .whole-run .last .0)
+  whole-run = made-whole (w o) (s o .args .letters .now) (behind o) (to-end o) (c .whole-run .ensures) (omega (arith, to-end o, stops o))
+
   long : length (c .whole-run .last .0) ≡ length (s o .args .buffer .now)
   long = c .whole-run .ensures .long ∙ j .join-above .ensures .long
 
@@ -173,7 +179,7 @@ whole-run-requires c κs =
     let j = c .before .before .before in
     let k = j .before .before .before in
     let e = j .join-above .ensures .long in
-    (W k, ((next k, omega (arith, to-last k, room k), omega (arith, s k .pre .1 .1 .0)), (behind k, to-end k, omega (arith, to-end k, stops k))))
+    (W k, (s k .pre .1 .0 .0, ((next k, omega (arith, to-last k, room k), omega (arith, s k .pre .1 .1 .0)), (behind k, to-end k))))
 
 new-requires-3 : tie.Need-new-requires-3
 new-requires-3 c κs = search needs
@@ -218,7 +224,7 @@ returns c =
     made-last (W k) (s k .args .at) (s k .args .letters .now) (s k .args .stop) (eight k) (r-is k) some
     (j .before .last-letters .ensures) (to-is k) (omega (arith, behind k, next-to k)) (stops k) (ap (λ (x : ℕ). s k .args .stop - x) (starts-is n))
     (λ i. c .slice-known4 .given i .fits) (j .join-below .ensures) in
-    made-three (W k) _ _ _ _ (bytes k) (first-run h) (h .whole-run .ensures) last (b-is k) (omega arith) (next k) (omega arith) (stop-next k some)
+    made-three (W k) _ _ _ _ (bytes k) (first-run h) (whole-run h) last (b-is k) (omega arith) (next k) (omega arith) (stop-next k some)
 
 same-length-2 : tie.Need-same-length-2
 same-length-2 c = search needs
@@ -227,7 +233,7 @@ returns-2 : tie.Need-returns-2
 returns-2 c =
     let h = c .before .before .before in
     let k = o h in
-    made-three (W k) _ _ _ _ (bytes k) (first-run h) (h .whole-run .ensures) (made-none (le-refl (to k))) (b-is k) (omega arith) (next k) (le-refl (to k)) (stop-full k (omega (arith, c .if1 .left)))
+    made-three (W k) _ _ _ _ (bytes k) (first-run h) (whole-run h) (made-none (le-refl (to k))) (b-is k) (omega arith) (next k) (le-refl (to k)) (stop-full k (omega (arith, c .if1 .left)))
 
 pub fill-many-spec : {M : Type 1} → statement M
 fill-many-spec =
