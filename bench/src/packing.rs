@@ -16,8 +16,9 @@ pub fn jobs(text: &[u8]) -> Result<(), Refusal> {
     for part in [999, 150, 30] {
         gluing(text, part);
     }
-    overwriting(text, LETTERS - 2);
-    overwriting(text, 150);
+    for each in [LETTERS - 2, 150, 30] {
+        overwriting(text, each);
+    }
     Ok(())
 }
 
@@ -114,12 +115,12 @@ fn overwriting(text: &[u8], each: usize) {
     let whole = other.len() / each * each;
     after[1..1 + whole].copy_from_slice(&other[..whole]);
     let after = packed_by::<PackedSeqVec>(&after);
-    let name = match each {
-        150 => "overwrite, bases, 150 at a time",
-        _ => "overwrite, bases",
+    let name = match other.len() == each {
+        true => "overwrite, bases".into(),
+        false => format!("overwrite, bases, {each} at a time"),
     };
     alone(
-        name,
+        &name,
         inside::bytes(&before).to_vec(),
         |buffer| {
             let mut store = bases::Store::again(buffer, Chars(LETTERS));
