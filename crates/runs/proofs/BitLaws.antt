@@ -1,17 +1,19 @@
--- A number bit by bit: the bits of what `&`, `|` and the shifts make, and a number as the word of its bits.
+-- A number bit by bit: the bits of what `&`, `|` and the shifts make, and a number as the word of its bits and bounded by them.
 -- Assumes nothing.
-use mathlib.Core.Path.{_≡_, sym, ap, _∙_}
-use Prim.Native.Nat.{ℕ, suc, _+_, _-_, _*_, _/_, _%_, _^_, _≤_, _<_, min, max}
-use native.Mathlib.Nat.{add-sub-of-le, mul-assoc, one-mul, mod-lt, mod-eq-of-lt}
+use mathlib.Core.Path.{_≡_, sym, ap, _∙_, subst}
+use Prim.Native.Nat.{ℕ, zero, suc, _+_, _-_, _*_, _/_, _%_, _^_, _≤_, _<_, min, max, zero-le}
+use native.Mathlib.Nat.{add-comm, add-sub-of-le, mul-assoc, one-mul, mod-lt, mod-eq-of-lt, lt-of-lt-of-le, lt-suc-self, lt-div-mul-add}
+use native.Mathlib.Numerals.{add-one}
 use native.Mathlib.Omega.{arith}
 use lib.Arith.{digits-mod}
 use lib.Bits.{bitAnd, bitOr, and-shr, or-shr, and-step, or-step, shifted-even}
 use lib.Dec.{lit<}
-use lib.Pow.{pow-add, shr-shr, shl-shr}
+use lib.Pow.{pow-pos, pow-mono, pow-add, shr-shr, shl-shr, shr-lt}
 use Rattle.codes.specs.Codes.{tab}
 use Rattle.codes.specs.Words.{word}
 use Rattle.codes.proofs.FieldLaws.{field-of}
 use Rattle.codes.proofs.TabLaws.{tab-ext, charsOf-tab}
+use Rattle.codes.proofs.WidthLaws.{below-or}
 use Rattle.codes.proofs.WordLaws.{word-charsOf}
 
 -- bit j of x
@@ -59,3 +61,13 @@ bits-word n x f l h =
     sym (ap (λ (e : ℕ). x % 2 ^ e) (one-mul n) ∙ mod-eq-of-lt l)
     ∙ sym (word-charsOf 1 n x)
     ∙ ap (word 1) (charsOf-tab 1 n x ∙ tab-ext n (λ i. x / 2 ^ (1 * i) % 2 ^ 1) f (λ j m. ap (λ (e : ℕ). x / 2 ^ e % 2) (one-mul j) ∙ h j m))
+
+-- a number whose bits are zeros from bit n on
+pub bits-lt : (n m x : ℕ) → x < 2 ^ m → ((j : ℕ) → n ≤ j → j < m → bit x j ≡ 0) → x < 2 ^ n
+bits-lt n zero x l h = lt-of-lt-of-le l (pow-mono zero-le)
+bits-lt n (suc m) x l h =
+    below-or m n (λ a. lt-of-lt-of-le l (pow-mono a))
+    (λ a.
+    let top : x / 2 ^ m < 2 = shr-lt 1 m (subst (λ (e : ℕ). x < 2 ^ e) (sym (add-one m) ∙ add-comm m 1) l) in
+    let none : x / 2 ^ m ≡ 0 = sym (mod-eq-of-lt top) ∙ h m a (lt-suc-self m) in
+    bits-lt n m x (omega (arith, subst (λ (q : ℕ). x < q * 2 ^ m + 2 ^ m) none (lt-div-mul-add (pow-pos m)))) (λ j b c. h j b (omega arith)))

@@ -1,4 +1,4 @@
--- The flags of 64 letters: one letter's by arithmetic; a byte each, stacked to eight bytes of eight; and the stack turned.
+-- The flags of up to 64 letters: one letter's by arithmetic; a byte each, stacked to eight bytes of up to eight; and the stack turned.
 -- Assumes nothing.
 use mathlib.Core.List.{List}
 use mathlib.Core.Path.{_≡_, sym, ap, ap₂, _∙_}
@@ -12,10 +12,12 @@ use lib.ListN.{getD}
 use lib.Pow.{pow-mono}
 use Rattle.codes.specs.Codes.{pick, charAt, tab, code}
 use Rattle.codes.specs.Words.{word}
+use Rattle.codes.proofs.CodeLaws.{code-lt}
 use Rattle.codes.proofs.FieldLaws.{charAt-is}
-use Rattle.codes.proofs.TabLaws.{getD-tab, Below-of, tab-at}
+use Rattle.codes.proofs.TabLaws.{getD-tab, Below-tab, tab-at}
 use Rattle.codes.proofs.WidthLaws.{below-or, width-1}
-use Rattle.runs.proofs.BitLaws.{bit, bit-or, bit-shr, bit-shl, bit-shl-low, bit-mod, bits-word}
+use Rattle.runs.specs.Bytes.{lettersWord}
+use Rattle.runs.proofs.BitLaws.{bit, bit-or, bit-shr, bit-shl, bit-shl-low, bit-mod, bits-word, bits-lt}
 
 -- 1 where bit 2 is set and bit 1 is clear, as in T and U
 abbrev tee : ℕ → ℕ
@@ -39,70 +41,94 @@ module _ (mask x : ℕ) where
   pub flag-set : (other mask x ≡ 0 → ⊥) → Right mask → x < 256 → 1 ≡ code 1 x
   flag-set n t h = rw (ne-eqb (other mask x) 0 n) at (flag-is t h)
 
--- eight words of eight flags, a byte each, are stacked: word k gives bit k of each byte. This is bit j of the stack
-abbrev flagAt : List ℕ → ℕ → ℕ
-flagAt s j = getD s (8 * (j % 8) + j / 8) 0
+module _ (ls : List ℕ) where
+  abbrev flag : ℕ → ℕ
+  flag i = code 1 (getD ls i 0)
 
-module _ (s : List ℕ) (few : (i : ℕ) → getD s i 0 < 2) where
-  load-bit : (k j : ℕ) → j < 64 → bit (word 8 s / 2 ^ (8 * (8 * k)) % 2 ^ 64) j ≡ bit (getD s (8 * k + j / 8) 0) (j % 8)
-  unfolding charAt
-  load-bit k j h =
-      let p : ℕ = 8 * (8 * k) + j in
-      let at : p / 8 ≡ 8 * k + j / 8 = omega arith in
-      let b : 1 * (p % 8) ≡ j % 8 = omega arith in
-      bit-mod (word 8 s / 2 ^ (8 * (8 * k))) 64 j h
-      ∙ bit-shr (word 8 s) (8 * (8 * k)) j
-      ∙ ap (λ (e : ℕ). word 8 s / 2 ^ e % 2) (sym (one-mul p))
-      ∙ sym (charAt-is width-1 s (Below-of 8 s (λ i. omega (arith, few i))) p)
-      ∙ ap₂ (λ (a b : ℕ). bit (getD s a 0) b) at b
+  flag-lt : (i : ℕ) → flag i < 2
+  flag-lt i = code-lt width-1 (getD ls i 0)
 
   -- a flag is its byte's bit 0
-  flag-low : (i : ℕ) → bit (getD s i 0) 0 ≡ getD s i 0
-  flag-low i = ap (λ (y : ℕ). y % 2) (div-one (getD s i 0)) ∙ mod-eq-of-lt (few i)
+  flag-low : (i : ℕ) → bit (flag i) 0 ≡ flag i
+  flag-low i = ap (λ (y : ℕ). y % 2) (div-one (flag i)) ∙ mod-eq-of-lt (flag-lt i)
 
-  flag-high : (i b : ℕ) → 0 < b → bit (getD s i 0) b ≡ 0
-  flag-high i b h = ap (λ (y : ℕ). y % 2) (div-eq-of-lt (lt-of-lt-of-le (few i) (pow-mono {i = 1} h)))
+  flag-high : (i b : ℕ) → 0 < b → bit (flag i) b ≡ 0
+  flag-high i b h = ap (λ (y : ℕ). y % 2) (div-eq-of-lt (lt-of-lt-of-le (flag-lt i) (pow-mono {i = 1} h)))
 
-  module _ (k : ℕ) (l : k < 8) (v : ℕ) (e : v ≡ word 8 s / 2 ^ (8 * (8 * k)) % 2 ^ 64) where
-    -- word k, shifted up by k
-    shifted : (j : ℕ) → k ≤ j → j < 64 → bit (v * 2 ^ k % 2 ^ 64) j ≡ bit (getD s (8 * k + (j - k) / 8) 0) ((j - k) % 8)
-    shifted j a h = bit-mod (v * 2 ^ k) 64 j h ∙ bit-shl v k j a ∙ ap (λ (y : ℕ). bit y (j - k)) e ∙ load-bit k (j - k) (omega arith)
+  -- eight of n flags from letter p on, a byte each
+  load-bit : (n p a j : ℕ) → a + 8 ≤ n → j < 64 → bit (word 8 (tab n (λ m. flag (p + m))) / 2 ^ (8 * a) % 2 ^ 64) j ≡ bit (flag (p + (a + j / 8))) (j % 8)
+  unfolding charAt
+  load-bit n p a j l h =
+      let f : ℕ → ℕ = λ m. flag (p + m) in
+      let s : List ℕ = tab n f in
+      let q : ℕ = 8 * a + j in
+      let at : q / 8 ≡ a + j / 8 = omega arith in
+      let b : 1 * (q % 8) ≡ j % 8 = omega arith in
+      bit-mod (word 8 s / 2 ^ (8 * a)) 64 j h
+      ∙ bit-shr (word 8 s) (8 * a) j
+      ∙ ap (λ (e : ℕ). word 8 s / 2 ^ e % 2) (sym (one-mul q))
+      ∙ sym (charAt-is width-1 s (Below-tab 8 n f (λ m. omega (arith, flag-lt (p + m)))) q)
+      ∙ ap₂ (λ (a b : ℕ). bit (getD s a 0) b) at b
+      ∙ ap (λ (y : ℕ). bit y (j % 8)) (getD-tab n f (a + j / 8) (omega arith))
 
-    level : (j : ℕ) → j < 64 → j % 8 ≡ k → bit (v * 2 ^ k % 2 ^ 64) j ≡ flagAt s j
-    level j h q =
-        let at : 8 * k + (j - k) / 8 ≡ 8 * (j % 8) + j / 8 = omega arith in
-        let b : (j - k) % 8 ≡ 0 = omega arith in
-        shifted j (omega arith) h
-        ∙ ap₂ (λ (a b : ℕ). bit (getD s a 0) b) at b
-        ∙ flag-low (8 * (j % 8) + j / 8)
+  -- up to eight words of eight flags from letter i on are stacked: word k gives bit k of each byte
+  module _ (i : ℕ) where
+    -- bit j of the stack
+    abbrev flagAt : ℕ → ℕ
+    flagAt j = flag (i + (8 * (j % 8) + j / 8))
 
-    beside : (j : ℕ) → j < 64 → (j % 8 ≡ k → ⊥) → bit (v * 2 ^ k % 2 ^ 64) j ≡ 0
-    beside j h q =
-        below-or j k (λ a. bit-mod (v * 2 ^ k) 64 j h ∙ bit-shl-low v k j a) (λ a. shifted j a h ∙ flag-high (8 * k + (j - k) / 8) ((j - k) % 8) (omega arith))
+    -- y is the stack of the first k words
+    abbrev pub Stacked : ℕ → ℕ → Type 0
+    Stacked k y = (j : ℕ) → j < 64 → (j % 8 < k → bit y j ≡ flagAt j) × (k ≤ j % 8 → bit y j ≡ 0)
 
--- y is the stack of the first k words of eight flags
-abbrev pub Stacked : List ℕ → ℕ → ℕ → Type 0
-Stacked s k y = (j : ℕ) → j < 64 → (j % 8 < k → bit y j ≡ flagAt s j) × (k ≤ j % 8 → bit y j ≡ 0)
+    pub stacked-none : Stacked 0 0
+    stacked-none j h = (λ l. absurd (omega arith), λ l. ap (λ (y : ℕ). y % 2) (zero-div (2 ^ j)))
 
-pub stacked-none : (s : List ℕ) → Stacked s 0 0
-stacked-none s j h = (λ l. absurd (omega arith), λ l. ap (λ (y : ℕ). y % 2) (zero-div (2 ^ j)))
+    module _ (k : ℕ) (l : k < 8) (n p a v : ℕ) (fits : a + 8 ≤ n) (place : p + a ≡ i + 8 * k) (e : v ≡ word 8 (tab n (λ m. flag (p + m))) / 2 ^ (8 * a) % 2 ^ 64) where
+      -- word k, shifted up by k
+      shifted : (j : ℕ) → k ≤ j → j < 64 → bit (v * 2 ^ k % 2 ^ 64) j ≡ bit (flag (i + (8 * k + (j - k) / 8))) ((j - k) % 8)
+      shifted j m h =
+          let at : p + (a + (j - k) / 8) ≡ i + (8 * k + (j - k) / 8) = omega arith in
+          bit-mod (v * 2 ^ k) 64 j h
+          ∙ bit-shl v k j m
+          ∙ ap (λ (y : ℕ). bit y (j - k)) e
+          ∙ load-bit n p a (j - k) fits (omega arith)
+          ∙ ap (λ (x : ℕ). bit (flag x) ((j - k) % 8)) at
 
-pub stacked-more : (s : List ℕ) → ((i : ℕ) → getD s i 0 < 2) → (k y v : ℕ) → k < 8 → v ≡ word 8 s / 2 ^ (8 * (8 * k)) % 2 ^ 64 → Stacked s k y
-    → Stacked s (k + 1) (bitOr y (v * 2 ^ k % 2 ^ 64))
-stacked-more s few k y v l e z j h = (
-  λ m. bit-or y x j ∙ below-or (j % 8) k (λ a. ap₂ max (z j h .0 a) (beside s few k l v e j h (λ q. omega arith)) ∙ max-zero (flagAt s j))
-      (λ a. ap₂ max (z j h .1 a) (level s few k l v e j h (omega arith)) ∙ zero-max (flagAt s j)),
-  λ m. bit-or y x j ∙ ap₂ max (z j h .1 (omega arith)) (beside s few k l v e j h (λ q. omega arith)),
-)
-  where
-    x : ℕ
-    x = v * 2 ^ k % 2 ^ 64
+      level : (j : ℕ) → j < 64 → j % 8 ≡ k → bit (v * 2 ^ k % 2 ^ 64) j ≡ flagAt j
+      level j h q =
+          let at : 8 * k + (j - k) / 8 ≡ 8 * (j % 8) + j / 8 = omega arith in
+          let b : (j - k) % 8 ≡ 0 = omega arith in
+          shifted j (omega arith) h
+          ∙ ap₂ (λ (a b : ℕ). bit (flag (i + a)) b) at b
+          ∙ flag-low (i + (8 * (j % 8) + j / 8))
 
--- the whole stack, turned, is the word of the flags
-pub stacked-turned : (f : ℕ → ℕ) (y r : ℕ) → Stacked (tab 64 f) 8 y → r < 2 ^ 64 → ((j : ℕ) → j < 64 → bit r j ≡ bit y (8 * (j % 8) + j / 8)) → r ≡ word 1 (tab 64 f)
-stacked-turned f y r z l t =
-    bits-word 64 r f l
-    (λ j h.
-    let p : ℕ = 8 * (j % 8) + j / 8 in
-    let back : 8 * (p % 8) + p / 8 ≡ j = omega arith in
-    t j h ∙ z p (omega arith) .0 (omega arith) ∙ ap (λ (i : ℕ). getD (tab 64 f) i 0) back ∙ getD-tab 64 f j h)
+      beside : (j : ℕ) → j < 64 → (j % 8 ≡ k → ⊥) → bit (v * 2 ^ k % 2 ^ 64) j ≡ 0
+      beside j h q =
+          below-or j k (λ b. bit-mod (v * 2 ^ k) 64 j h ∙ bit-shl-low v k j b)
+          (λ b. shifted j b h ∙ flag-high (i + (8 * k + (j - k) / 8)) ((j - k) % 8) (omega arith))
+
+      pub stacked-more : (y : ℕ) → Stacked k y → Stacked (k + 1) (bitOr y (v * 2 ^ k % 2 ^ 64))
+      stacked-more y z j h = (
+        λ m. bit-or y x j ∙ below-or (j % 8) k (λ b. ap₂ max (z j h .0 b) (beside j h (λ q. omega arith)) ∙ max-zero (flagAt j))
+            (λ b. ap₂ max (z j h .1 b) (level j h (omega arith)) ∙ zero-max (flagAt j)),
+        λ m. bit-or y x j ∙ ap₂ max (z j h .1 (omega arith)) (beside j h (λ q. omega arith)),
+      )
+        where
+          x : ℕ
+          x = v * 2 ^ k % 2 ^ 64
+
+    -- the stack, turned, is the word of the flags
+    pub stacked-turned : (n y r : ℕ) → n ≤ 8 → Stacked n y → r < 2 ^ 64 → ((j : ℕ) → j < 64 → bit r j ≡ bit y (8 * (j % 8) + j / 8)) → r ≡ lettersWord 1 (8 * n) ls i
+    unfolding lettersWord
+    stacked-turned n y r m z l t =
+        bits-word (8 * n) r (λ j. flag (i + j))
+        (bits-lt (8 * n) 64 r l
+        (λ j a h.
+        let p : ℕ = 8 * (j % 8) + j / 8 in
+        let row : p % 8 ≡ j / 8 = omega arith in
+        t j h ∙ z p (omega arith) .1 (omega arith)))
+        (λ j h.
+        let p : ℕ = 8 * (j % 8) + j / 8 in
+        let back : 8 * (p % 8) + p / 8 ≡ j = omega arith in
+        t j (omega arith) ∙ z p (omega arith) .0 (omega arith) ∙ ap (λ (q : ℕ). flag (i + q)) back)

@@ -1,9 +1,9 @@
--- Bytes of letters alone, stored eight at a time: a byte of a word of letters, and a run that grows by such a word.
+-- Bytes of letters alone, by words of letters: a byte of such a word, and a run that grows by eight bytes stored at once.
 -- Assumes nothing.
 use mathlib.Core.List.{List}
 use mathlib.Core.Path.{_≡_, sym, ap, ap₂, _∙_, subst}
-use Prim.Native.Nat.{ℕ, _+_, _-_, _*_, _/_, _%_, _^_, _≤_, _<_}
-use native.Mathlib.Nat.{add-assoc, add-mul, mul-add, mul-assoc, mul-comm, mul-le-mul-right, suc-mul}
+use Prim.Native.Nat.{ℕ, suc, _+_, _-_, _*_, _/_, _%_, _^_, _≤_, _<_}
+use native.Mathlib.Nat.{add-assoc, add-mul, mul-add, mul-assoc, mul-comm, mul-le-mul-left, suc-mul}
 use native.Mathlib.Omega.{arith}
 use lib.ListN.{length, getD}
 use lib.Pow.{shr-shr}
@@ -35,22 +35,20 @@ module _ {w : ℕ} (W : IsWidth w) (ls : List ℕ) where
       ∙ getD-tab n f (a + k) (omega arith)
       ∙ ap (λ (p : ℕ). code w (getD ls p 0)) (sym (add-assoc i a k))))
 
-  -- byte q of eight
-  letters-byte : (i q : ℕ) → q < 8 → getD (charsOf 8 8 (lettersWord w (8 * per w) ls i)) q 0 ≡ lettersWord w (per w) ls (i + q * per w)
-  letters-byte i q h =
-      let x : ℕ = lettersWord w (8 * per w) ls i in
+  -- byte q of n
+  pub letters-byte : (n i q : ℕ) → q < n → lettersWord w (per w * n) ls i / 2 ^ (8 * q) % 2 ^ 8 ≡ lettersWord w (per w) ls (i + q * per w)
+  letters-byte n i q h =
+      let x : ℕ = lettersWord w (per w * n) ls i in
       let e : 8 * q ≡ w * (q * per w) = ap (λ (b : ℕ). b * q) (sym (W .whole)) ∙ mul-assoc w (per w) q ∙ ap (λ (n : ℕ). w * n) (mul-comm (per w) q) in
-      ap (λ (l : List ℕ). getD l q 0) (charsOf-tab 8 8 x)
-      ∙ getD-tab 8 (λ q. x / 2 ^ (8 * q) % 2 ^ 8) q h
-      ∙ ap₂ (λ (a b : ℕ). x / 2 ^ a % 2 ^ b) e (sym (W .whole))
-      ∙ letters-part (8 * per w) i (q * per w) (per w) (subst (λ (n : ℕ). n ≤ 8 * per w) (suc-mul q (per w)) (mul-le-mul-right (per w) h))
+      ap₂ (λ (a b : ℕ). x / 2 ^ a % 2 ^ b) e (sym (W .whole))
+      ∙ letters-part (per w * n) i (q * per w) (per w) (subst (λ (m : ℕ). m ≤ per w * n) (mul-comm (per w) (suc q) ∙ suc-mul q (per w)) (mul-le-mul-left (per w) h))
 
   -- a run grows by eight bytes of letters stored behind it
   module _ (from first : ℕ) where
     abbrev byte : ℕ → ℕ
     byte b = lettersWord w (per w) ls (first + (b - from) * per w)
 
-    pub letters-more : {a j x : ℕ} {d e g : List ℕ} → Made byte a j d e → a ≤ j → from ≤ j → j + 8 ≤ length d → x ≡ lettersWord w (8 * per w) ls (first + (j - from) * per w)
+    pub letters-more : {a j x : ℕ} {d e g : List ℕ} → Made byte a j d e → a ≤ j → from ≤ j → j + 8 ≤ length d → x ≡ lettersWord w (per w * 8) ls (first + (j - from) * per w)
         → g ≡ sets e j (charsOf 8 8 x) → Made byte a (j + 8) d g
     letters-more {a} {j} {x} {d} z m l room q s =
         subst (Made byte a (j + 8) d) (sym s)
@@ -59,7 +57,9 @@ module _ {w : ℕ} (W : IsWidth w) (ls : List ℕ) where
         (λ i h.
         let k : i < 8 = subst (λ (n : ℕ). i < n) (length-charsOf 8 8 x) h in
         let n : j + i - from ≡ j - from + i = omega arith in
-        ap (λ (y : ℕ). getD (charsOf 8 8 y) i 0) q
-        ∙ letters-byte (first + (j - from) * per w) i k
+        ap (λ (l : List ℕ). getD l i 0) (charsOf-tab 8 8 x)
+        ∙ getD-tab 8 (λ i. x / 2 ^ (8 * i) % 2 ^ 8) i k
+        ∙ ap (λ (y : ℕ). y / 2 ^ (8 * i) % 2 ^ 8) q
+        ∙ letters-byte 8 (first + (j - from) * per w) i k
         ∙ ap (lettersWord w (per w) ls) (add-assoc first ((j - from) * per w) (i * per w) ∙ ap (λ (p : ℕ). first + p) (sym (ap (λ (p : ℕ). p * per w) n ∙ add-mul (j - from) i (per w))))))
         (ap (λ (n : ℕ). j + n) (length-charsOf 8 8 x)))

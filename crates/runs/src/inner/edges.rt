@@ -1,6 +1,6 @@
 // Bytes that new characters share with what stands there: joined with it, or made anew character by character.
 use crate::inner::whole::bases4;
-use crate::inner::whole::flags8;
+use crate::inner::whole::flags_of;
 use codes::inner::bits::wide;
 use codes::inner::counts::chars_in;
 use codes::inner::counts::per_byte;
@@ -46,7 +46,7 @@ fn eight(w: usize, letters: &[u8], i: usize) -> u64
     if w == 2 {
         return wide(bases4(letters, i)) + wide(bases4(letters, i + 4)) * 0x100;
     }
-    wide(flags8(letters, i))
+    flags_of(letters, i, 1)
 }
 
 // The first letters from character k of a byte on.

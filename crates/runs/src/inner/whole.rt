@@ -1,5 +1,4 @@
-// Bytes of new letters alone: four bases or eight flags to a byte, and the flags of 64 letters at a time.
-use codes::letters::char_is_ambiguous;
+// Bytes of new letters alone: four bases or eight flags to a byte, and the flags of up to 64 letters at a time.
 use codes::letters::pack_char_lossy;
 use fields::inner::loads::load64;
 use fields::inner::writes::store64;
@@ -24,27 +23,6 @@ pub(crate) fn bases4(letters: &[u8], i: usize) -> u8
     bases2(letters, i) + bases2(letters, i + 2) * 16
 }
 
-fn flags2(letters: &[u8], i: usize) -> u8
-    requires { ⌜ i + 2 ≤ length (now letters) ⌝ }
-    ensures { λ r. ⌜ r ≡ lettersWord 1 2 (now (letters .entry)) i ⌝ }
-{
-    char_is_ambiguous(letters[i]) + char_is_ambiguous(letters[i + 1]) * 2
-}
-
-fn flags4(letters: &[u8], i: usize) -> u8
-    requires { ⌜ i + 4 ≤ length (now letters) ⌝ }
-    ensures { λ r. ⌜ r ≡ lettersWord 1 4 (now (letters .entry)) i ⌝ }
-{
-    flags2(letters, i) + flags2(letters, i + 2) * 4
-}
-
-pub(crate) fn flags8(letters: &[u8], i: usize) -> u8
-    requires { ⌜ i + 8 ≤ length (now letters) ⌝ }
-    ensures { λ r. ⌜ r ≡ lettersWord 1 8 (now (letters .entry)) i ⌝ }
-{
-    flags4(letters, i) + flags4(letters, i + 4) * 16
-}
-
 // 0 for one of the ten letters, else 1, with no branch. Without its case and bits 1 and 2 each of A, C and G is 0x41.
 // T and U have bit 2 set and bit 1 clear: there bit 4 is set too, and bit 0 is free.
 fn flag_of(x: u8) -> u8
@@ -53,6 +31,20 @@ fn flag_of(x: u8) -> u8
     let t = (x >> 2) & ((x >> 1) ^ 0xff) & 1;
     let f = ((x & 0xd9) | t) ^ 0x41 ^ (t << 4);
     if f == 0 { 0 } else { 1 }
+}
+
+// The flags of eight letters from letter i on, a byte each.
+fn spread8(letters: &[u8], i: usize) -> [u8; 8]
+    requires { ⌜ i + 8 ≤ length (now letters) ⌝ }
+    ensures { λ r. ⌜ r ≡ tab 8 (λ k. code 1 (getD (now (letters .entry)) (i + k) 0)) ⌝ }
+{
+    let mut out: [u8; 8] = [0; 8];
+    let mut k: usize = 0;
+    while k < 8 {
+        out[k] = flag_of(letters[i + k]);
+        k += 1;
+    }
+    out
 }
 
 // The flags of 64 letters from letter i on, a byte each.
@@ -82,6 +74,21 @@ fn turn(x: u64) -> u64
     (z & 0xf0f0_f0f0_0f0f_0f0f)
         | ((z & 0x0000_0000_f0f0_f0f0) << 28)
         | ((z >> 28) & 0x0000_0000_f0f0_f0f0)
+}
+
+// The flags of n times eight letters from letter i on, n at most 8, as one word.
+pub(crate) fn flags_of(letters: &[u8], i: usize, n: usize) -> u64
+    requires { ⌜ (n ≤ 8) × (i + 8 * n ≤ length (now letters)) ⌝ }
+    ensures { λ r. ⌜ r ≡ lettersWord 1 (8 * n) (now (letters .entry)) i ⌝ }
+{
+    let mut y: u64 = 0;
+    let mut k: usize = 0;
+    while k < n {
+        let bits = spread8(letters, i + 8 * k);
+        y = y | (load64(&bits, 0) << k);
+        k += 1;
+    }
+    turn(y)
 }
 
 // The flags of 64 letters from letter i on, as one word.
@@ -114,17 +121,17 @@ pub(crate) fn bases_run(buffer: &mut [u8], from: usize, to: usize, letters: &[u8
     }
 }
 
-// Bytes of flags, one at a time.
+// Fewer than eight bytes of flags, out of one word.
 fn flags_bytes(buffer: &mut [u8], from: usize, to: usize, letters: &[u8], first: usize)
-    requires { ⌜ (from ≤ to) × (to ≤ length (now buffer)) ⌝ }
+    requires { ⌜ (from ≤ to) × (to < from + 8) × (to ≤ length (now buffer)) ⌝ }
     requires { ⌜ first + (to - from) * 8 ≤ length (now letters) ⌝ }
     ensures { λ _. ⌜ Made (λ j. lettersWord 1 8 (now (letters .entry)) (first + (j - from) * 8)) from to (now (buffer .entry)) (now (buffer .exit)) ⌝ }
 {
+    let mut rest = flags_of(letters, first, to - from);
     let mut j = from;
-    let mut i = first;
     while j < to {
-        buffer[j] = flags8(letters, i);
-        i += 8;
+        buffer[j] = (rest % 0x100) as u8;
+        rest = rest >> 8;
         j += 1;
     }
 }

@@ -37,18 +37,14 @@ returns c =
     let e = letters-two 2 (s .args .letters .now) 4 i _ _ (c .before .before .wide .ensures ∙ c .before .before .before .bases4 .ensures) (c .wide2 .ensures ∙ c .before .bases42 .ensures) in
     subst (λ (w : ℕ). c .before .before .wide .result + c .wide2 .result * 256 ≡ lettersWord w 8 (s .args .letters .now) i) (sym (c .before .before .before .before .if1 .taken)) e
 
-flags8-requires : tie.Need-flags8-requires
-flags8-requires c κs = search needs
-
-wide-requires-3 : tie.Need-wide-requires-3
-wide-requires-3 c κs = search needs
+flags-of-requires : tie.Need-flags-of-requires
+flags-of-requires c κs = search needs
 
 returns-2 : tie.Need-returns-2
 returns-2 c =
-    let f = c .before in
-    let s = f .before .before .before in
-    let one : s .args .w ≡ 1 = omega (arith, f .before .if1 .left, width-pos (s .pre .0)) in
-    c .wide3 .ensures ∙ f .flags8 .ensures ∙ ap (λ (w : ℕ). lettersWord w 8 (s .args .letters .now) (s .args .i)) (sym one)
+    let s = c .before .before .before in
+    let one : s .args .w ≡ 1 = omega (arith, c .before .if1 .left, width-pos (s .pre .0)) in
+    c .flags-of .ensures ∙ ap (λ (w : ℕ). lettersWord w 8 (s .args .letters .now) (s .args .i)) (sym one)
 
 pub eight-spec : {M : Type 1} → statement M
 eight-spec =
@@ -62,6 +58,5 @@ eight-spec =
     mul-result
     add-result
     returns
-    flags8-requires
-    wide-requires-3
+    flags-of-requires
     returns-2)
