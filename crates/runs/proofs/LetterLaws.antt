@@ -1,4 +1,4 @@
--- The laws of eight letters as one number, of which the first and the last byte of a run of letters are made.
+-- The laws of a byte of letters, of which the first and the last byte of a run of letters are made.
 -- Assumes nothing.
 use mathlib.Core.List.{List, map}
 use mathlib.Core.Path.{_≡_, sym, ap, _∙_}
@@ -67,7 +67,7 @@ module _ {w : ℕ} (W : IsWidth w) where
     p = per w
 
     -- the byte of `at`: the characters below it stay
-    pub made-first : {k v b : ℕ} {d e : List ℕ} → k ≡ at % p → v ≡ lettersWord w 8 ls 0 * 2 ^ (w * k) % 2 ^ 8 → b ≡ at / p → b * p + p ≤ stop
+    pub made-first : {k v b : ℕ} {d e : List ℕ} → k ≡ at % p → v ≡ lettersWord w p ls 0 * 2 ^ (w * k) % 2 ^ 8 → b ≡ at / p → b * p + p ≤ stop
         → ((j : ℕ) → getD e j 0 < 256) → Made (λ j. both w k (getD d j 0) v) b (b + 1) d e → Made (anew w d at cs stop) b (b + 1) d e
     made-first {k} {v} {b} {d} {e} ks vs bs top bytes z = record {
       long = z .long;
@@ -85,12 +85,12 @@ module _ {w : ℕ} (W : IsWidth w) where
             (λ h.
             above-new w k v z j i q h
             ∙ ap (λ (x : ℕ). nth w x i) vs
-            ∙ shl-nth (lettersWord w 8 ls 0) k i h m
-            ∙ letters-nth 8 ls 0 (i - k) (omega (arith, per-le W))
+            ∙ shl-nth (lettersWord w p ls 0) k i h m
+            ∙ letters-nth p ls 0 (i - k) (omega arith)
             ∙ sym (splice-new _ at cs stop (j * p + i) (omega arith) (omega arith) ∙ getD-codes w ls (j * p + i - at) (omega (arith, per-le W)) ∙ ap (λ (x : ℕ). code w (getD ls x 0)) (omega arith)))
 
     -- the byte of the end, where letters stand in it: zeros up to `stop`, and the characters from there on stay
-    pub made-last : {n k v b : ℕ} {d e : List ℕ} → n ≡ end % p → 0 < n → v ≡ lettersWord w 8 ls (length ls - 8) / 2 ^ (w * (8 - n)) % 2 ^ 8 → b ≡ end / p → at ≤ b * p
+    pub made-last : {n k v b : ℕ} {d e : List ℕ} → n ≡ end % p → 0 < n → v ≡ lettersWord w p ls (length ls - p) / 2 ^ (w * (p - n)) % 2 ^ 8 → b ≡ end / p → at ≤ b * p
         → end ≤ stop → k ≡ stop - b * p → ((j : ℕ) → getD e j 0 < 256) → Made (λ j. both w k v (getD d j 0)) b (b + 1) d e → Made (anew w d at cs stop) b (b + 1) d e
     made-last {n} {k} {v} {b} {d} {e} ns some vs bs low stops ks bytes z = record {
       long = z .long;
@@ -100,22 +100,23 @@ module _ {w : ℕ} (W : IsWidth w) where
     }
       where
         x : ℕ
-        x = lettersWord w 8 ls (length ls - 8)
+        x = lettersWord w p ls (length ls - p)
 
         char : (j : ℕ) → j ≡ b → (i : ℕ) → i < p → nth w (getD e j 0) i ≡ splice (λ x. nth w (getD d j 0) i) at cs stop (j * p + i)
         char j q i m =
             let s : j * p + n ≡ end = ap (λ (x : ℕ). x * p + n) (q ∙ bs) ∙ omega (arith, div-add-mod' end p) in
             let t : j * p ≡ b * p = ap (λ (x : ℕ). x * p) q in
-            let few : n ≤ 8 = omega (arith, mod-lt end (per-pos W), per-le W) in
+            let few : n ≤ p = omega (arith, mod-lt end (per-pos W)) in
+            let long : p ≤ length ls = omega (arith, per-le W) in
             below-or i k
             (λ h.
             below-new w k v z j i q h
             ∙ ap (λ (y : ℕ). nth w y i) vs
-            ∙ shr-nth x (8 - n) i m
+            ∙ shr-nth x (p - n) i m
             ∙ below-or i n
             (λ l.
-            letters-nth 8 ls (length ls - 8) (8 - n + i) (omega arith)
+            letters-nth p ls (length ls - p) (p - n + i) (omega arith)
             ∙ sym (getD-codes w ls (j * p + i - at) (omega arith) ∙ ap (λ (y : ℕ). code w (getD ls y 0)) (omega arith)))
-            (λ l. letters-out 8 ls (length ls - 8) (8 - n + i) (omega arith) ∙ sym (getD-codes-out w ls (j * p + i - at) (omega arith)))
+            (λ l. letters-out p ls (length ls - p) (p - n + i) (omega arith) ∙ sym (getD-codes-out w ls (j * p + i - at) (omega arith)))
             ∙ sym (splice-new _ at cs stop (j * p + i) (omega arith) (omega arith)))
             (λ h. below-own w k v z j i (λ r. h) ∙ sym (splice-far _ at cs stop (j * p + i) (omega arith)))

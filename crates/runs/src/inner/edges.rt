@@ -37,14 +37,14 @@ pub(crate) fn join_above(buffer: &mut [u8], w: usize, b: usize, k: usize, high: 
     buffer[b] = joined(buffer[b], high, w * k);
 }
 
-// The codes of the eight letters from letter i on, as one number.
-fn eight(w: usize, letters: &[u8], i: usize) -> u64
+// A byte of letters, from letter i on.
+fn whole_byte(w: usize, letters: &[u8], i: usize) -> u64
     requires { ⌜ IsWidth w ⌝ }
-    requires { ⌜ (w ≤ 2) × (i + 8 ≤ length (now letters)) ⌝ }
-    ensures { λ r. ⌜ r ≡ lettersWord w 8 (now (letters .entry)) i ⌝ }
+    requires { ⌜ (w ≤ 2) × (i + per w ≤ length (now letters)) ⌝ }
+    ensures { λ r. ⌜ r ≡ lettersWord w (per w) (now (letters .entry)) i ⌝ }
 {
     if w == 2 {
-        return wide(bases4(letters, i)) + wide(bases4(letters, i + 4)) * 0x100;
+        return wide(bases4(letters, i));
     }
     flags_of(letters, i, 1)
 }
@@ -52,19 +52,20 @@ fn eight(w: usize, letters: &[u8], i: usize) -> u64
 // The first letters from character k of a byte on.
 pub(crate) fn first_letters(w: usize, letters: &[u8], k: usize) -> u8
     requires { ⌜ IsWidth w ⌝ }
-    requires { ⌜ (w ≤ 2) × (8 ≤ length (now letters)) × (k ≤ per w) ⌝ }
-    ensures { λ r. ⌜ r ≡ lettersWord w 8 (now (letters .entry)) 0 * 2 ^ (w * k) % 2 ^ 8 ⌝ }
+    requires { ⌜ (w ≤ 2) × (per w ≤ length (now letters)) × (k ≤ per w) ⌝ }
+    ensures { λ r. ⌜ r ≡ lettersWord w (per w) (now (letters .entry)) 0 * 2 ^ (w * k) % 2 ^ 8 ⌝ }
 {
-    ((eight(w, letters, 0) << (w * k)) % 0x100) as u8
+    ((whole_byte(w, letters, 0) << (w * k)) % 0x100) as u8
 }
 
-// The last n letters, at most eight, from the first character of a byte on.
+// The last n letters, no more than a byte holds, from its first character on.
 pub(crate) fn last_letters(w: usize, letters: &[u8], n: usize) -> u8
     requires { ⌜ IsWidth w ⌝ }
-    requires { ⌜ (w ≤ 2) × (8 ≤ length (now letters)) × (n ≤ 8) ⌝ }
-    ensures { λ r. ⌜ r ≡ lettersWord w 8 (now (letters .entry)) (length (now (letters .entry)) - 8) / 2 ^ (w * (8 - n)) % 2 ^ 8 ⌝ }
+    requires { ⌜ (w ≤ 2) × (per w ≤ length (now letters)) × (n ≤ per w) ⌝ }
+    ensures { λ r. ⌜ r ≡ lettersWord w (per w) (now (letters .entry)) (length (now (letters .entry)) - per w) / 2 ^ (w * (per w - n)) % 2 ^ 8 ⌝ }
 {
-    ((eight(w, letters, letters.len() - 8) >> (w * (8 - n))) % 0x100) as u8
+    let c = per_byte(w).count();
+    ((whole_byte(w, letters, letters.len() - c) >> (w * (c - n))) % 0x100) as u8
 }
 
 // Character k of a byte, at place i: a letter's code or 0 from `at` up to `stop`, else the old one.

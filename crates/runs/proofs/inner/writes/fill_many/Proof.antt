@@ -164,7 +164,7 @@ count-requires-4 : tie.Need-count-requires-4
 count-requires-4 c κs = search needs
 
 first-letters-requires : tie.Need-first-letters-requires
-first-letters-requires c κs = let k = c .before in (W k, (s k .pre .1 .0 .0, eight k, few k))
+first-letters-requires c κs = let k = c .before in (W k, (s k .pre .1 .0 .0, omega (arith, eight k, per-le (W k)), few k))
 
 join-above-requires : tie.Need-join-above-requires
 join-above-requires c κs = let k = c .before .before in (W k, (omega (arith, next k, to-last k, room k), few k))
@@ -198,7 +198,7 @@ sub-rest c = let k = o (c .before .before .before .before .before .before) in om
 last-letters-requires : tie.Need-last-letters-requires
 last-letters-requires c κs =
     let k = o (c .before .before .before .before .before .before .before) in
-    (W k, (s k .pre .1 .0 .0, eight k, omega (arith, r-is k, mod-lt (end k) (per-pos (W k)), per-le (W k))))
+    (W k, (s k .pre .1 .0 .0, omega (arith, eight k, per-le (W k)), omega (arith, r-is k, mod-lt (end k) (per-pos (W k)))))
 
 join-below-requires : tie.Need-join-below-requires
 join-below-requires c κs =
