@@ -4,7 +4,6 @@ pub mod Meaning
 pub mod ContentLaws
 pub mod RestLaws
 pub mod LineLaws
-pub mod BytewiseLaws
 pub mod MarkLaws
 pub mod LetterLaws
 pub mod PushLaws

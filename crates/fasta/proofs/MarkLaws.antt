@@ -1,91 +1,45 @@
 -- The marks of the line feeds in a word of eight bytes: how they are made, and that the lowest is where the line ends.
 -- Assumes nothing.
-use mathlib.Core.List.{List, [], _∷_, map, map-id}
+use mathlib.Core.List.{List, [], _∷_, map}
 use mathlib.Core.Path.{_≡_, refl, sym, ap, ap₂, _∙_}
-use Prim.Native.Nat.{ℕ, suc, _+_, _-_, _*_, _/_, _%_, _^_, _≤_, _<_}
+use Prim.Native.Nat.{ℕ, zero, suc, _+_, _-_, _*_, _/_, _%_, _^_, _≤_, _<_}
 use native.Mathlib.Decide.{ℕ-discrete}
-use native.Mathlib.Nat.{add-zero, mod-eq-of-lt, lt-of-le-of-lt}
+use native.Mathlib.Nat.{add-zero, zero-add, mul-one}
 use native.Mathlib.Omega.{arith}
 use borrow.Author.Tests.{eq-eqb, ne-eqb}
-use lib.Bits.{bitAnd, bitOr, bitXor, and-block, or-block, xor-block, or-lt, xor-lt, and-le-r}
+use lib.Bits.{bitAnd, bitOr, bitXor, shifted-half, shifted-even}
 use lib.Count.{trailingZeros, under, trailing-of-zero}
 use lib.Dec.{lit<}
 use lib.ListN.{length, getD}
 use Rattle.codes.specs.Codes.{tab}
-use Rattle.codes.specs.Words.{word, charsOf, same}
+use Rattle.codes.specs.Words.{word, charsOf}
 use Rattle.codes.proofs.Net.{rep}
-use Rattle.codes.proofs.TabLaws.{tab-at}
 use Rattle.codes.proofs.WidthLaws.{below-or}
-use Rattle.codes.proofs.WordLaws.{Below, length-charsOf, word-charsOf, charsOf-fit}
+use Rattle.codes.proofs.WordLaws.{Below, length-charsOf}
 use Rattle.fields.proofs.LoadLaws.{loaded-char}
+use Rattle.runs.proofs.BytewiseLaws.{each-self, each-rep, each-and, each-or, each-xor, each-add, each-as}
 use Rattle.fasta.specs.Steps.{lineEnd, feedMark}
-use Rattle.fasta.proofs.BytewiseLaws.{Fits, add-block, word-both, word-with, word-same, zeros-shifted}
 use Rattle.fasta.proofs.LineLaws.{line-end-is, line-end}
 
--- ---- the marks, made
-
--- what the code makes of a byte, step by step
-abbrev other : ℕ → ℕ
-other b = bitXor b 10
-
-abbrev seven : ℕ → ℕ
-seven b = bitAnd (other b) 127
-
-abbrev carried : ℕ → ℕ
-carried b = seven b + 127
-
-abbrev joined : ℕ → ℕ
-joined b = bitOr (carried b) (other b)
-
-abbrev top : ℕ → ℕ
-top b = bitAnd (joined b) 128
-
-other-fits : Fits 8 other
-other-fits b h = xor-lt 8 b 10 h (lit< tt)
-
-seven-fits : Fits 8 seven
-seven-fits b h = lt-of-le-of-lt (and-le-r (other b) 127) (lit< tt)
-
-carried-fits : Fits 8 carried
-carried-fits b h = omega (arith, and-le-r (other b) 127)
-
-joined-fits : Fits 8 joined
-joined-fits b h = or-lt 8 (carried b) (other b) (carried-fits b h) (other-fits b h)
-
-top-fits : Fits 8 top
-top-fits b h = lt-of-le-of-lt (and-le-r (joined b) 128) (lit< tt)
-
--- that is the mark: one computed test of all bytes
-bytes-right : tab 256 (λ b. bitXor (top b) 128) ≡ tab 256 feedMark
+-- what the code makes is made byte by byte, and that this is the mark is one computed test of all bytes
+pub marks-made : (x : ℕ) → x < 2 ^ 64
+    → bitXor (bitAnd (bitOr (bitAnd (bitXor x (rep 8 10 8)) (rep 8 127 8) + rep 8 127 8) (bitXor x (rep 8 10 8))) (rep 8 128 8)) (rep 8 128 8) ≡ word 8 (map feedMark (charsOf 8 8 x))
 unfolding tab
-bytes-right = refl
+marks-made x small =
+    let other = each-xor (each-self small) (each-rep 10 (lit< tt)) in
+    let carried = each-add (each-and other (each-rep 127 (lit< tt))) (each-rep 127 (lit< tt)) refl in
+    each-as (each-xor (each-and (each-or carried other) (each-rep 128 (lit< tt))) (each-rep 128 (lit< tt))) feedMark refl
 
-byte-right : (b : ℕ) → b < 2 ^ 8 → bitXor (top b) 128 ≡ feedMark b
-byte-right = tab-at 256 (λ b. bitXor (top b) 128) feedMark bytes-right
-
-module _ (x : ℕ) (small : x < 2 ^ 64) where
-  abbrev each : (ℕ → ℕ) → ℕ
-  each f = word 8 (map f (charsOf 8 8 x))
-
-  each-other : bitXor x (rep 8 10 8) ≡ each other
-  each-other =
-      ap (λ (n : ℕ). bitXor n (rep 8 10 8)) (sym (ap (word 8) (map-id (charsOf 8 8 x)) ∙ word-charsOf 8 8 x ∙ mod-eq-of-lt small))
-      ∙ word-with 8 bitXor refl (xor-block 8) same 10 (λ c h. h) (lit< tt) 8 x
-
-  each-carried : bitAnd (bitXor x (rep 8 10 8)) (rep 8 127 8) + rep 8 127 8 ≡ each carried
-  each-carried =
-      ap (λ (n : ℕ). n + rep 8 127 8) (ap (λ (n : ℕ). bitAnd n (rep 8 127 8)) each-other ∙ word-with 8 bitAnd refl (and-block 8) other 127 other-fits (lit< tt) 8 x)
-      ∙ word-with 8 (λ a b. a + b) refl (add-block 8) seven 127 seven-fits (lit< tt) 8 x
-
-  pub marks-made : bitXor (bitAnd (bitOr (bitAnd (bitXor x (rep 8 10 8)) (rep 8 127 8) + rep 8 127 8) (bitXor x (rep 8 10 8))) (rep 8 128 8)) (rep 8 128 8) ≡ each feedMark
-  marks-made =
-      ap₂ (λ (m n : ℕ). bitXor (bitAnd (bitOr m n) (rep 8 128 8)) (rep 8 128 8)) each-carried each-other
-      ∙ ap (λ (n : ℕ). bitXor (bitAnd n (rep 8 128 8)) (rep 8 128 8)) (word-both 8 bitOr refl (or-block 8) carried other carried-fits other-fits (charsOf 8 8 x) (charsOf-fit 8 8 x))
-      ∙ ap (λ (n : ℕ). bitXor n (rep 8 128 8)) (word-with 8 bitAnd refl (and-block 8) joined 128 joined-fits (lit< tt) 8 x)
-      ∙ word-with 8 bitXor refl (xor-block 8) top 128 top-fits (lit< tt) 8 x
-      ∙ word-same 8 (λ b. bitXor (top b) 128) feedMark byte-right (charsOf 8 8 x) (charsOf-fit 8 8 x)
-
--- ---- the lowest mark
+-- the zeros below a number that is shifted up by j
+zeros-shifted : (j k n : ℕ) → trailingZeros (j + k) (n * 2 ^ j) ≡ j + trailingZeros k n
+unfolding trailingZeros
+zeros-shifted zero k n = ap₂ trailingZeros (zero-add k) (mul-one n) ∙ sym (zero-add (trailingZeros k n))
+zeros-shifted (suc j) k n =
+    let s : suc j + k ≡ suc (j + k) = omega arith in
+    ap (λ (m : ℕ). trailingZeros m (n * 2 ^ suc j)) s
+    ∙ ap₂ (λ (d m : ℕ). under d (trailingZeros (j + k) m)) (shifted-even n j) (shifted-half n j)
+    ∙ ap suc (zeros-shifted j k n)
+    ∙ omega arith
 
 -- the first of n + 1 bytes is marked, or it is not
 zeros-marked : (n v : ℕ) → trailingZeros (8 * suc n) (v * 2 ^ 8 + 128) ≡ 7

@@ -9,5 +9,6 @@ pub mod SeqLaws
 pub mod WrittenLaws
 pub mod BitLaws
 pub mod TurnLaws
+pub mod BytewiseLaws
 pub mod FlagLaws
 pub mod LetterRunLaws

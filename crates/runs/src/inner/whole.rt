@@ -2,11 +2,13 @@
 use codes::letters::pack_char_lossy;
 use fields::inner::loads::load64;
 use fields::inner::writes::store64;
+ghost use mathlib.Core.List.{map};
 ghost use mathlib.Core.Path.{_≡_};
 ghost use Prim.Native.Nat.{ℕ, _+_, _-_, _*_, _/_, _%_, _^_, _≤_, _<_};
 ghost use lib.ListN.{length, getD};
 ghost use Rattle.codes.specs.Codes.{code, tab};
 ghost use Rattle.codes.specs.Made.{Made};
+ghost use Rattle.codes.specs.Words.{word, charsOf};
 ghost use Rattle.runs.specs.Bytes.{lettersWord};
 
 fn bases2(letters: &[u8], i: usize) -> u8
@@ -33,20 +35,6 @@ fn flag_of(x: u8) -> u8
     if f == 0 { 0 } else { 1 }
 }
 
-// The flags of eight letters from letter i on, a byte each.
-fn spread8(letters: &[u8], i: usize) -> [u8; 8]
-    requires { ⌜ i + 8 ≤ length (now letters) ⌝ }
-    ensures { λ r. ⌜ r ≡ tab 8 (λ k. code 1 (getD (now (letters .entry)) (i + k) 0)) ⌝ }
-{
-    let mut out: [u8; 8] = [0; 8];
-    let mut k: usize = 0;
-    while k < 8 {
-        out[k] = flag_of(letters[i + k]);
-        k += 1;
-    }
-    out
-}
-
 // The flags of 64 letters from letter i on, a byte each.
 fn spread(letters: &[u8], i: usize) -> [u8; 64]
     requires { ⌜ i + 64 ≤ length (now letters) ⌝ }
@@ -59,6 +47,16 @@ fn spread(letters: &[u8], i: usize) -> [u8; 64]
         k += 1;
     }
     out
+}
+
+// The flags of the eight letters of x, a byte each: what `flag_of` does, at all eight at once, and nothing goes from byte to byte.
+fn flags_in(x: u64) -> u64
+    ensures { λ r. ⌜ r ≡ word 8 (map (code 1) (charsOf 8 8 x)) ⌝ }
+{
+    let t = ((x & 0x0404_0404_0404_0404) >> 2)
+        & (((x & 0x0202_0202_0202_0202) >> 1) ^ 0x0101_0101_0101_0101);
+    let f = ((x & 0xd9d9_d9d9_d9d9_d9d9) | t) ^ 0x4141_4141_4141_4141 ^ (t << 4);
+    ((((f & 0x7f7f_7f7f_7f7f_7f7f) + 0x7f7f_7f7f_7f7f_7f7f) | f) & 0x8080_8080_8080_8080) >> 7
 }
 
 // The 8 by 8 bits of x turned: bit 8 i + k to bit 8 k + i.
@@ -84,8 +82,7 @@ pub(crate) fn flags_of(letters: &[u8], i: usize, n: usize) -> u64
     let mut y: u64 = 0;
     let mut k: usize = 0;
     while k < n {
-        let bits = spread8(letters, i + 8 * k);
-        y = y | (load64(&bits, 0) << k);
+        y = y | (flags_in(load64(letters, i + 8 * k)) << k);
         k += 1;
     }
     turn(y)

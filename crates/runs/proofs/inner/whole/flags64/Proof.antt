@@ -1,6 +1,6 @@
 -- The invariant: y is the stack of the first k words of flags. Assumes nothing.
 use mathlib.Core.List.{List}
-use mathlib.Core.Path.{refl, ap, _∙_, subst}
+use mathlib.Core.Path.{ap, _∙_, subst}
 use Prim.Native.Nat.{ℕ, _-_, _*_, _/_, _%_, _^_, _≤_}
 use native.Mathlib.Nat.{le-refl}
 use native.Mathlib.Omega.{arith}
@@ -8,7 +8,7 @@ use borrow.Author.Needs.{needs}
 use lib.ListN.{length}
 use Rattle.codes.specs.Words.{word}
 use Rattle.codes.proofs.TabLaws.{length-tab}
-use Rattle.runs.proofs.FlagLaws.{Stacked, stacked-none, stacked-more, stacked-turned}
+use Rattle.runs.proofs.FlagLaws.{spread-load, Stacked, stacked-none, stacked-more, stacked-turned}
 use Rattle.runs.proofs.inner.whole.flags64.Statement.{statement}
 use Rattle.runs.proofs.inner.whole.flags64.Tie as tie
 
@@ -47,8 +47,9 @@ loop-again c =
     let l = c .before .before .before in
     let a = l .before .before .before .args in
     let k = l .loop .k in
-    let v = c .load64 .ensures ∙ ap (λ (s : List ℕ). word 8 s / 2 ^ (8 * (8 * k)) % 2 ^ 64) (l .before .spread .ensures) in
-    (omega arith, stacked-more (a .letters .now) (a .i) k (omega arith) 64 (a .i) (8 * k) (c .load64 .result) (omega arith) refl v (l .loop .y) (l .loop .inv .1))
+    let e = c .load64 .ensures ∙ ap (λ (s : List ℕ). word 8 s / 2 ^ (8 * (8 * k)) % 2 ^ 64) (l .before .spread .ensures) in
+    let v = spread-load (a .letters .now) 64 (a .i) (8 * k) (c .load64 .result) (omega arith) e in
+    (omega arith, stacked-more (a .letters .now) (a .i) k (omega arith) (c .load64 .result) v (l .loop .y) (l .loop .inv .1))
 
 turn-requires : tie.Need-turn-requires Inv-loop μ-loop
 turn-requires c κs = search needs

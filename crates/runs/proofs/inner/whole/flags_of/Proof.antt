@@ -1,14 +1,10 @@
 -- The invariant: y is the stack of the first k words of flags. Assumes nothing.
-use mathlib.Core.List.{List}
-use mathlib.Core.Path.{ap, _∙_, subst}
-use Prim.Native.Nat.{ℕ, _+_, _-_, _*_, _/_, _%_, _^_, _≤_}
-use native.Mathlib.Nat.{le-refl}
+use mathlib.Core.Path.{subst}
+use Prim.Native.Nat.{ℕ, _+_, _-_, _*_, _≤_}
 use native.Mathlib.Omega.{arith}
 use borrow.Author.Needs.{needs}
-use lib.ListN.{length}
-use Rattle.codes.specs.Words.{word}
-use Rattle.codes.proofs.TabLaws.{length-tab}
-use Rattle.runs.proofs.FlagLaws.{Stacked, stacked-none, stacked-more, stacked-turned}
+use Rattle.codes.proofs.TabLaws.{Below-of}
+use Rattle.runs.proofs.FlagLaws.{spread-made, Stacked, stacked-none, stacked-more, stacked-turned}
 use Rattle.runs.proofs.inner.whole.flags_of.Statement.{statement}
 use Rattle.runs.proofs.inner.whole.flags_of.Tie as tie
 
@@ -21,20 +17,17 @@ abbrev μ-loop : tie.MeasureT-loop
 loop-holds : tie.Need-loop-holds Inv-loop μ-loop
 loop-holds c = (omega arith, stacked-none (c .before .args .letters .now) (c .before .args .i))
 
-mul-spread8 : tie.Need-mul-spread8 Inv-loop μ-loop
-mul-spread8 c = omega arith
+mul-load64 : tie.Need-mul-load64 Inv-loop μ-loop
+mul-load64 c = omega arith
 
-add-spread8 : tie.Need-add-spread8 Inv-loop μ-loop
-add-spread8 c = omega arith
-
-spread8-requires : tie.Need-spread8-requires Inv-loop μ-loop
-spread8-requires c κs = omega arith
-
-slice-aggregate-load64 : tie.Need-slice-aggregate-load64 Inv-loop μ-loop
-slice-aggregate-load64 c = search needs
+add-load64 : tie.Need-add-load64 Inv-loop μ-loop
+add-load64 c = omega arith
 
 load64-requires : tie.Need-load64-requires Inv-loop μ-loop
-load64-requires c κs = omega (arith, ap length (c .before .spread8 .ensures) ∙ length-tab 8 _)
+load64-requires c κs = omega arith
+
+flags-in-requires : tie.Need-flags-in-requires Inv-loop μ-loop
+flags-in-requires c κs = search needs
 
 shl-y : tie.Need-shl-y Inv-loop μ-loop
 shl-y c = omega arith
@@ -47,11 +40,13 @@ loop-less c = omega arith
 
 loop-again : tie.Need-loop-again Inv-loop μ-loop
 loop-again c =
-    let b = c .before .before in
-    let l = b .before .before in
+    let x = c .before .load64 in
+    let l = c .before .before .before in
     let a = l .before .before .args in
-    let v = c .load64 .ensures ∙ ap (λ (s : List ℕ). word 8 s / 2 ^ (8 * 0) % 2 ^ 64) (b .spread8 .ensures) in
-    (omega arith, stacked-more (a .letters .now) (a .i) (l .loop .k) (omega arith) 8 (a .i + 8 * l .loop .k) 0 (c .load64 .result) (le-refl 8) (omega arith) v (l .loop .y) (l .loop .inv .1))
+    let k = l .loop .k in
+    let bytes = Below-of 8 (a .letters .now) (λ j. l .before .shared-slice-known .given j .fits) in
+    let v = spread-made (a .letters .now) (a .i + 8 * k) (x .result) (c .flags-in .result) bytes (x .ensures) (c .flags-in .ensures) in
+    (omega arith, stacked-more (a .letters .now) (a .i) k (omega arith) (c .flags-in .result) v (l .loop .y) (l .loop .inv .1))
 
 turn-requires : tie.Need-turn-requires Inv-loop μ-loop
 turn-requires c κs = search needs
@@ -70,11 +65,10 @@ flags-of-spec =
     Inv-loop
     μ-loop
     loop-holds
-    mul-spread8
-    add-spread8
-    spread8-requires
-    slice-aggregate-load64
+    mul-load64
+    add-load64
     load64-requires
+    flags-in-requires
     shl-y
     add-k
     loop-less
