@@ -37,7 +37,8 @@ module _ (c : tie.After-lane-of) where
   unfolding lane
   lane-is =
       let r = shape-ranges (s .args .context) (s .args .factor) (s .pre .1) in
-      c .lane-of .ensures ∙ ap₂ (λ (m n : ℕ). multipleAbove m ((n + 7) / 8)) (group-pow (s .args .w) (s .args .factor) (c .before .power .result) (r .2) (r .3) (c .before .power .ensures .0)) starts-is
+      let g = group-pow (s .args .w) (s .args .factor) (c .before .power .result) (r .2) (r .3) (c .before .power .ensures .0) in
+      c .lane-of .ensures ∙ ap₂ (λ (m n : ℕ). multipleAbove m ((n + 7) / 8)) g starts-is
 
   right : Shaped (s .args .w) (s .args .len) (s .args .context) (s .args .factor)
   right = shaped-is (s .pre .0) (s .args .len) (s .args .context) (s .args .factor) (s .pre .1)

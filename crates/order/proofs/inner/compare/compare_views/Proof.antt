@@ -139,7 +139,9 @@ returns c =
     let at-k : (v : ℕ) → v / 2 ^ (a .w * there k) % 2 ^ a .w ≡ v / 2 ^ (a .w * (trailingZeros 64 (z t) / a .w)) % 2 ^ a .w = λ v. ap (λ (j : ℕ). v / 2 ^ (a .w * j) % 2 ^ a .w) r in
     let decided = ap₂ (λ (m n : ℕ). compare (m ∷ []) (n ∷ [])) (c .before .before .low-bits .ensures ∙ at-k (x .result) ∙ both .0) (c .before .low-bits2 .ensures ∙ at-k (y .result) ∙ both .1) in
     let few = two (views t) .least in
-    let behind = order-behind (a .w) (a .a .now) (a .ao) (a .al) (a .b .now) (a .bo) (a .bl) _ (sym (ap (λ (j : ℕ). l .i + j) r) ∙ e) (omega (arith, few, min-le-left (a .al) (a .bl), r)) (omega (arith, few, min-le-right (a .al) (a .bl), r)) in
+    let behind =
+    order-behind (a .w) (a .a .now) (a .ao) (a .al) (a .b .now) (a .bo) (a .bl) _ (sym (ap (λ (j : ℕ). l .i + j) r) ∙ e) (omega (arith, few, min-le-left (a .al) (a .bl), r))
+    (omega (arith, few, min-le-right (a .al) (a .bl), r)) in
     (c .order-of .ensures ∙ decided ∙ sym behind, e)
 
 add-p : tie.Need-add-p Inv-loop μ-loop

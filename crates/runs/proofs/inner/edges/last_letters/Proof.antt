@@ -50,7 +50,8 @@ returns : tie.Need-returns
 returns c =
     let k = c .before in
     let a = s k .args in
-    ap₂ (λ (x p : ℕ). x / 2 ^ (a .w * (p - a .n)) % 2 ^ 8) (c .whole-byte .ensures ∙ ap (λ (p : ℕ). lettersWord (a .w) (per (a .w)) (a .letters .now) (length (a .letters .now) - p)) (count-is k)) (count-is k)
+    let e = ap (λ (p : ℕ). lettersWord (a .w) (per (a .w)) (a .letters .now) (length (a .letters .now) - p)) (count-is k) in
+    ap₂ (λ (x p : ℕ). x / 2 ^ (a .w * (p - a .n)) % 2 ^ 8) (c .whole-byte .ensures ∙ e) (count-is k)
 
 pub last-letters-spec : {M : Type 1} → statement M
 last-letters-spec =
