@@ -1,4 +1,4 @@
-// Single characters of a byte string, and bytes of the characters of two. Only these functions shift within a byte.
+// Single characters of a byte string, and a byte joined of the bits of two.
 use crate::inner::bits::wide;
 use crate::inner::counts::byte_of;
 use crate::inner::counts::within_byte;
