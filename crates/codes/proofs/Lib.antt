@@ -19,3 +19,4 @@ pub mod PackedLaws
 pub mod Viewed
 pub mod Permitted
 pub mod Decided
+pub mod Refused

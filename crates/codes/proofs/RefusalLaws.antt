@@ -7,7 +7,7 @@ use Prim.Native.Nat.{ℕ, _≤_, zero-le}
 use lib.Dec.{ltb}
 use lib.ListN.{getD}
 use borrow.Author.Tests.{le-ltb, ltb-false}
-use Rattle.codes.specs.Refusals.{Test, badWord, Answer, first, numberOf, answer}
+use Rattle.codes.specs.Refusals.{Test, badWord, Answer, first, numberOf, answer, ifDone}
 use Rattle.codes.specs.declared.refusals.Refusal.the-variants.{TooLong, BadStore, BadView, BadRange, BadWord, BadLetter, BadForm, BadStream, NoRoom, Partial}
 use Rattle.codes.specs.declared.refusals.Outcome.{Outcome}
 use Rattle.codes.specs.declared.refusals.Outcome.the-variants.{Done, Refused}
@@ -83,3 +83,19 @@ says-once told r r′ e = told .back r ∙ ap (λ (x : Answer _). told .make (ou
 pub leaves-once : {A B R : Type 0} {says : R → Answer A} → Told says → {a : Answer A} {b : B} (r r′ : R) {v v′ : B}
     → (says r ≡ a) × (v ≡ b) → (says r′ ≡ a) × (v′ ≡ b) → _≡_ {A = R × B} (r, v) (r′, v′)
 leaves-once told r r′ p q = λ i. (says-once told r r′ (p .0 ∙ sym (q .0)) i, (p .1 ∙ sym (q .1)) i)
+
+-- an answer, by its number and by its values
+pub no-of : {A : Type 0} {x y : Answer A} → x ≡ y → x .no ≡ y .no
+no-of e = ap (λ (x : Answer _). x .no) e
+
+pub values-of : {A : Type 0} {x y : Answer A} → x ≡ y → x .values ≡ y .values
+values-of e = ap (λ (x : Answer _). x .values) e
+
+-- an outcome that stands alone
+abbrev pub outcomeSays : Outcome → Answer (Unit {0})
+outcomeSays o = record { no = numberOf o; values = tt }
+
+-- where an outcome's number is not 0, what there was stays: of an answer its zeros, of what is lent the old content
+pub refused-keeps : {A : Type 0} (o : Outcome) (new old : A) → (numberOf o ≡ 0 → ⊥) → ifDone o new old ≡ old
+refused-keeps Done new old h = absurd (h refl)
+refused-keeps (Refused r) new old h = refl

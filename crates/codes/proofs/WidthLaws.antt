@@ -32,12 +32,13 @@ width-cases P a b c (suc (suc (suc zero))) W = absurd (omega (arith, W .whole))
 width-cases P a b c (suc (suc (suc (suc zero)))) W = c
 width-cases P a b c (suc (suc (suc (suc (suc n))))) W = absurd (omega (arith, W .small))
 
--- so it is a power of two, and C8 is another
+-- so that what holds at each of them holds
+pub by-width : {X : Type 0} {w : ℕ} → IsWidth w → (w ≡ 1 → X) → (w ≡ 2 → X) → (w ≡ 4 → X) → X
+by-width {X} {w} W a b c = width-cases (λ v. w ≡ v → X) a b c w W refl
+
+-- it is a power of two
 pub width-pow : {w : ℕ} → IsWidth w → 2 ^ (w / 2) ≡ w
 width-pow {w} W = width-cases (λ v. 2 ^ (v / 2) ≡ v) refl refl refl w W
-
-pub per-pow : {w : ℕ} → IsWidth w → 2 ^ (3 - w / 2) ≡ per w
-per-pow {w} W = width-cases (λ v. 2 ^ (3 - v / 2) ≡ per v) refl refl refl w W
 
 module _ {w : ℕ} (W : IsWidth w) where
   pub per-pos : 0 < per w

@@ -1,11 +1,10 @@
 -- The four codes in turn. Assumes nothing.
 use mathlib.Core.Path.{_≡_, refl}
-use Prim.Native.Nat.{ℕ, zero, suc, _+_, _-_, _*_, _/_, _%_, _<_, _≤_}
+use Prim.Native.Nat.{ℕ, zero, suc, _-_, _/_, _%_, _<_, _≤_}
 use native.Mathlib.Nat.{mod-lt}
 use native.Mathlib.Omega.{arith}
 use lib.Bits.{bitAnd}
 use lib.Dec.{lit<, lit≤}
-use Rattle.codes.specs.Codes.{letter}
 use Rattle.codes.proofs.inner.packing.low_letter.Statement.{statement}
 use Rattle.codes.proofs.inner.packing.low_letter.Tie as tie
 
@@ -13,19 +12,16 @@ use Rattle.codes.proofs.inner.packing.low_letter.Tie as tie
 abbrev isT : ℕ → ℕ
 isT c = bitAnd (c / 2) (1 - c % 2)
 
-isT-le : (c : ℕ) → c < 4 → isT c ≤ 1
-isT-le zero h = lit≤ tt
-isT-le (suc zero) h = lit≤ tt
-isT-le (suc (suc zero)) h = lit≤ tt
-isT-le (suc (suc (suc zero))) h = lit≤ tt
-isT-le (suc (suc (suc (suc n)))) h = absurd (omega arith)
+-- a code is one of four
+one-of : {X : Type 0} (c : ℕ) → c < 4 → (c ≡ 0 → X) → (c ≡ 1 → X) → (c ≡ 2 → X) → (c ≡ 3 → X) → X
+one-of zero h a b c d = a refl
+one-of (suc zero) h a b c d = b refl
+one-of (suc (suc zero)) h a b c d = c refl
+one-of (suc (suc (suc zero))) h a b c d = d refl
+one-of (suc (suc (suc (suc n)))) h a b c d = absurd (omega arith)
 
-letter-is : (c : ℕ) → c < 4 → 65 + 2 * c + 15 * isT c ≡ letter c
-letter-is zero h = refl
-letter-is (suc zero) h = refl
-letter-is (suc (suc zero)) h = refl
-letter-is (suc (suc (suc zero))) h = refl
-letter-is (suc (suc (suc (suc n)))) h = absurd (omega arith)
+isT-le : (c : ℕ) → c < 4 → isT c ≤ 1
+isT-le c h = one-of c h (λ e. rw e (lit≤ tt)) (λ e. rw e (lit≤ tt)) (λ e. rw e (lit≤ tt)) (λ e. rw e (lit≤ tt))
 
 module _ (c : tie.Start) where
   abbrev code : ℕ
@@ -50,7 +46,7 @@ add-result-2 : tie.Need-add-result-2
 add-result-2 c = omega (arith, low c, isT-le (code c) (low c))
 
 returns : tie.Need-returns
-returns c = letter-is (code c) (low c)
+returns c = one-of (code c) (low c) (λ e. rw e) (λ e. rw e) (λ e. rw e) (λ e. rw e)
 
 pub low-letter-spec : {M : Type 1} → statement M
 low-letter-spec = tie.close (tie.spec mul-result add-result sub-result mul-result-2 add-result-2 returns)
