@@ -2,10 +2,11 @@
 -- Assumes nothing.
 use mathlib.Core.List.{List, [], _∷_, map, map-id}
 use mathlib.Core.Path.{_≡_, refl, sym, ap, ap₂, _∙_, subst}
-use Prim.Native.Nat.{ℕ, _+_, _*_, _/_, _%_, _^_, _<_}
-use native.Mathlib.Nat.{add-mul, mul-assoc, mul-comm, zero-mul, mod-eq-of-lt, lt-of-le-of-lt}
+use Prim.Native.Nat.{ℕ, _+_, _-_, _*_, _/_, _%_, _^_, _<_}
+use native.Mathlib.Nat.{add-mul, mul-assoc, mul-comm, zero-mul, mod-lt, mod-eq-of-lt, lt-of-le-of-lt}
 use native.Mathlib.Omega.{arith}
-use lib.Bits.{bitAnd, bitOr, bitXor, and-block, or-block, xor-block, and-lt, or-lt, xor-lt}
+use lib.Bits.{bitAnd, bitOr, bitXor, and-block, or-block, xor-block, and-lt, or-lt, xor-lt, and-le-r}
+use lib.Dec.{lit<}
 use lib.ListN.{length, length-map}
 use lib.Pow.{shl-shr, shr-le}
 use Rattle.codes.specs.Codes.{tab}
@@ -13,6 +14,10 @@ use Rattle.codes.specs.Words.{word, charsOf}
 use Rattle.codes.proofs.Net.{rep}
 use Rattle.codes.proofs.TabLaws.{tab-at}
 use Rattle.codes.proofs.WordLaws.{Below, length-charsOf, charsOf-fit, word-charsOf, word-lt, Below-through}
+
+-- what passes a mask is as far below it as the mask is above
+pub and-under : (m y : ℕ) → bitAnd y m ≡ m - (m - bitAnd y m)
+and-under m y = omega (arith, and-le-r y m)
 
 -- f takes bytes to bytes
 abbrev Fits : (ℕ → ℕ) → Type 0
@@ -62,7 +67,7 @@ pub record Each (x : ℕ) (f : ℕ → ℕ) (y : ℕ) : Type 0 where
   pub fits : (b : ℕ) → b < 2 ^ 8 → f b < 2 ^ 8
 
 -- a rule of bytes that makes no more than a byte, which is tested
-abbrev Small : (ℕ → ℕ) → Type 0
+abbrev pub Small : (ℕ → ℕ) → Type 0
 Small f = tab 256 (λ b. f b / 2 ^ 8) ≡ tab 256 (λ b. 0)
 
 small-fits : (f : ℕ → ℕ) → Small f → Fits f
@@ -74,6 +79,10 @@ module _ {x : ℕ} where
 
   pub each-rep : (m : ℕ) → m < 2 ^ 8 → Each x (λ b. m) (rep 8 m 8)
   each-rep m h = record { made = sym (word-rep m (bytes x) ∙ ap (rep 8 m) (length-charsOf 8 8 x)); fits = λ b l. h }
+
+  -- a word of eight equal bytes, which is tested
+  pub each-word : (y : ℕ) → y ≡ rep 8 (y % 2 ^ 8) 8 → Each x (λ b. y % 2 ^ 8) y
+  each-word y e = subst (λ (z : ℕ). Each x (λ b. y % 2 ^ 8) z) (sym e) (each-rep (y % 2 ^ 8) (mod-lt y (lit< tt)))
 
   module _ {f : ℕ → ℕ} {y : ℕ} (p : Each x f y) where
     module _ {g : ℕ → ℕ} {z : ℕ} (q : Each x g z) where

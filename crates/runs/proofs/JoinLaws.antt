@@ -76,3 +76,7 @@ module _ (w k v : ℕ) {b : ℕ} {d e : List ℕ} where
 
     pub above-own : (j ≡ b → i < k) → nth w (getD e j 0) i ≡ nth w (getD d j 0) i
     above-own h = stays z j i (λ q. both-low w k (getD d j 0) v i (h q))
+
+-- a byte that was joined of two is that of their equals
+pub joined-as : (lo hi lo′ hi′ s r : ℕ) → r ≡ hi / 2 ^ s * 2 ^ s + lo % 2 ^ s → lo ≡ lo′ → hi ≡ hi′ → r ≡ hi′ / 2 ^ s * 2 ^ s + lo′ % 2 ^ s
+joined-as lo hi lo′ hi′ s r e l h = rw (e, l, h)

@@ -1,6 +1,6 @@
 -- Each number is its formula, with no sum that could wrap. Assumes nothing.
 use mathlib.Core.Path.{_≡_, ap, ap₂, _∙_}
-use Prim.Native.Nat.{ℕ, _+_, _-_, _*_, _/_, _%_}
+use Prim.Native.Nat.{ℕ, _+_, _-_, _*_, _/_, _%_, _^_}
 use native.Mathlib.Omega.{arith}
 use borrow.Author.Needs.{needs}
 use Rattle.lanes.specs.Lanes.{multipleAbove, starts, lane, padding}
@@ -12,7 +12,7 @@ starts-of-requires : tie.Need-starts-of-requires
 starts-of-requires c κs = shape-ranges (c .args .context) (c .args .factor) (c .pre .1) .0
 
 sub-lane-of : tie.Need-sub-lane-of
-sub-lane-of c = let s = c .before in shape-ranges (s .args .context) (s .args .factor) (s .pre .1) .2
+sub-lane-of c = let s = c .before in omega (arith, shape-ranges (s .args .context) (s .args .factor) (s .pre .1) .2)
 
 power-requires : tie.Need-power-requires
 power-requires c κs = search needs
@@ -22,6 +22,10 @@ add-lane-of c = let s = c .before .before in omega (arith, c .power .ensures .1,
 
 lane-of-requires : tie.Need-lane-of-requires
 lane-of-requires c κs = let s = c .before .before in omega (arith, c .power .ensures .1, shape-ranges (s .args .context) (s .args .factor) (s .pre .1) .3)
+
+-- a lane by its exponent, its group and its starts
+lane-by : (r e e′ n n′ g : ℕ) → r ≡ multipleAbove (2 ^ e) ((n + 7) / 8) → e ≡ e′ → 2 ^ e′ ≡ g → n ≡ n′ → r ≡ multipleAbove g ((n′ + 7) / 8)
+lane-by r e e′ n n′ g l p q h = rw (l, p, q, h)
 
 module _ (c : tie.After-lane-of) where
   abbrev s : tie.Start
@@ -38,7 +42,7 @@ module _ (c : tie.After-lane-of) where
   lane-is =
       let r = shape-ranges (s .args .context) (s .args .factor) (s .pre .1) in
       let g = group-pow (s .args .w) (s .args .factor) (c .before .power .result) (r .2) (r .3) (c .before .power .ensures .0) in
-      c .lane-of .ensures ∙ ap₂ (λ (m n : ℕ). multipleAbove m ((n + 7) / 8)) g starts-is
+      lane-by _ _ (s .args .factor - 1 + c .before .power .result) _ _ _ (c .lane-of .ensures) (omega arith) g starts-is
 
   right : Shaped (s .args .w) (s .args .len) (s .args .context) (s .args .factor)
   right = shaped-is (s .pre .0) (s .args .len) (s .args .context) (s .args .factor) (s .pre .1)

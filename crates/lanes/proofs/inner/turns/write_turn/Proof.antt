@@ -1,9 +1,11 @@
 -- The first half of each word, and then the second, which begins where the first ends. Assumes nothing.
+use mathlib.Core.List.{List}
 use mathlib.Core.Path.{_≡_, refl, sym, ap, _∙_}
-use Prim.Native.Nat.{ℕ, _+_, _-_, _*_, _/_, _≤_, _<_, min}
+use Prim.Native.Nat.{ℕ, _+_, _-_, _*_, _/_, _%_, _^_, _≤_, _<_, min}
 use native.Mathlib.Nat.{mul-zero, mul-add, mul-le-mul-left, mul-div-le, le-trans, min-le-left, min-le-right, le-min}
 use native.Mathlib.Omega.{arith}
 use borrow.Author.Needs.{needs}
+use lib.ListN.{getD}
 use Rattle.codes.specs.Codes.{IsWidth}
 use Rattle.codes.proofs.MadeLaws.{made-as, made-join, made-to}
 use Rattle.codes.proofs.WidthLaws.{below-or, whole}
@@ -52,6 +54,11 @@ module _ (c : tie.After-smaller) where
       omega (arith, more h, sym (mul-add w first (count - first)) ∙ ap (λ (k : ℕ). w * k) e, s .pre .1 .0))
       (λ h. let e : count - first ≡ 0 = omega arith in omega (arith, ap (λ (k : ℕ). w * k) e ∙ mul-zero w))
 
+-- the halves of words, by what they are divided by
+parts-at : (words part : List ℕ) (m n : ℕ) → ((l : ℕ) → l < 8 → getD part l 0 ≡ getD words l 0 / m % 2 ^ 32) → m ≡ n → (l : ℕ) → l < 8
+    → getD part l 0 ≡ getD words l 0 / n % 2 ^ 32
+parts-at words part m n is e l h = is l h ∙ ap (λ (x : ℕ). getD words l 0 / x % 2 ^ 32) e
+
 over-width-requires : tie.Need-over-width-requires
 over-width-requires c κs = search needs
 
@@ -97,7 +104,8 @@ returns c =
     made-to
     (made-join (made-as (h .write-half .ensures) low) (g .write-half2 .ensures) (omega arith) (omega arith)
     (λ q f l _.
-    turned-part (W k) (a .words) (r .halves2 .result) (first k) (count k - first k) (a .e) 32 (a .e + 8 * first k) (rest k) (more k (omega arith)) refl (r .halves2 .ensures) q f l))
+    turned-part (W k) (a .words) (r .halves2 .result) (first k) (count k - first k) (a .e) (w k * first k) (a .e + 8 * first k) (rest k) refl refl
+    (parts-at (a .words) (r .halves2 .result) _ (2 ^ (w k * first k)) (r .halves2 .ensures) (omega (arith, ap (λ (s : ℕ). 2 ^ s) (more k (omega arith))))) q f l))
     (omega (arith, few k))
 
 pub write-turn-spec : {M : Type 1} → statement M

@@ -2,7 +2,7 @@
 use native.Mathlib.Omega.{arith}
 use borrow.Author.Needs.{needs}
 use Rattle.codes.proofs.MadeLaws.{made-none, made-more}
-use Rattle.runs.proofs.JoinLaws.{bits-fit}
+use Rattle.runs.proofs.JoinLaws.{bits-fit, joined-as}
 use Rattle.runs.proofs.inner.edges.join_below.Statement.{statement}
 use Rattle.runs.proofs.inner.edges.join_below.Tie as tie
 
@@ -22,7 +22,7 @@ same-length : tie.Need-same-length
 same-length c = search needs
 
 returns : tie.Need-returns
-returns c = made-more (made-none (omega arith)) (omega arith) (omega arith) (c .joined .ensures)
+returns c = made-more (made-none (omega arith)) (omega arith) (omega arith) (joined-as _ _ _ _ _ _ (c .joined .ensures) (omega arith) (omega arith))
 
 pub join-below-spec : {M : Type 1} → statement M
 join-below-spec = tie.close (tie.spec slice-read-joined mul-joined joined-requires slice-write-buffer same-length returns)
