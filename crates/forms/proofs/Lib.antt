@@ -8,3 +8,4 @@ pub mod RoundTrip
 pub mod Decided
 pub mod Viewed
 pub mod Lowest
+pub mod Refused

@@ -44,7 +44,7 @@ comparedOf q v = comparedBy q (orderAt (v .0)) (v .1)
 
 compared-back : (r : Compared) → r ≡ comparedOf (outcomeAt (comparedSays r .no)) (comparedSays r .values)
 compared-back (Compared.Is o n) = ap (λ (x : Order). Compared.Is x n) (order-back o) ∙ sym (ap (λ (p : Outcome). comparedOf p (orderNumber o, n .0)) (outcomeAt-number Done))
-compared-back (Compared.Refused r) = sym (ap (λ (o : Outcome). comparedOf o (pos 0, 0)) (outcomeAt-number (Refused r)))
+compared-back (Compared.Refused r) = rw (outcomeAt-number (Refused r))
 
 pub compared-told : Told comparedSays
 compared-told = record { make = comparedOf; back = compared-back }
@@ -67,7 +67,7 @@ foundOf (Refused r) v = Found.Refused r
 found-back : (r : Found) → r ≡ foundOf (outcomeAt (foundSays r .no)) (foundSays r .values)
 found-back (Found.At p) = sym (ap (λ (o : Outcome). foundOf o (true, p .0)) (outcomeAt-number Done))
 found-back Found.Absent = sym (ap (λ (o : Outcome). foundOf o (false, 0)) (outcomeAt-number Done))
-found-back (Found.Refused r) = sym (ap (λ (o : Outcome). foundOf o (false, 0)) (outcomeAt-number (Refused r)))
+found-back (Found.Refused r) = rw (outcomeAt-number (Refused r))
 
 pub found-told : Told foundSays
 found-told = record { make = foundOf; back = found-back }
@@ -78,7 +78,7 @@ leastOf (Refused r) v = Least.Refused r
 
 least-back : (r : Least) → r ≡ leastOf (outcomeAt (leastSays r .no)) (leastSays r .values)
 least-back (Least.Is start n) = sym (ap (λ (o : Outcome). leastOf o (start .0, n .0)) (outcomeAt-number Done))
-least-back (Least.Refused r) = sym (ap (λ (o : Outcome). leastOf o (0, 0)) (outcomeAt-number (Refused r)))
+least-back (Least.Refused r) = rw (outcomeAt-number (Refused r))
 
 pub least-told : Told leastSays
 least-told = record { make = leastOf; back = least-back }

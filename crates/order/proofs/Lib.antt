@@ -8,3 +8,4 @@ pub mod AnswerLaws
 pub mod EqualIsZero
 pub mod Decided
 pub mod Lowest
+pub mod Refused

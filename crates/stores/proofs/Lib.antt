@@ -11,3 +11,4 @@ pub mod Called
 pub mod Viewed
 pub mod Lowest
 pub mod Rna
+pub mod Refused

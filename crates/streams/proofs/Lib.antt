@@ -6,3 +6,4 @@ pub mod Viewed
 pub mod AnswerLaws
 pub mod Decided
 pub mod Lowest
+pub mod Refused

@@ -11,3 +11,4 @@ pub mod Viewed
 pub mod PartsViewed
 pub mod Decided
 pub mod Lowest
+pub mod Refused

@@ -81,20 +81,26 @@ entry-is : {s : Store} {c k skip : ℕ} {out : List ℕ} {j l : ℕ} → Entry s
     → entry s c k skip out j l ≡ pick (window (flagsOf s) (begins s c k j l) k) 0xffff_ffff 0
 entry-is {s} {c} {k} {skip} {out} {j} {l} e = windows-whole (s .bytes) 0 (s .len) c k skip out (e .done) j l (e .from) (e .below) (e .lane-is) .1
 
+-- two entries whose windows begin at one place and have one answer there; whatever the contexts, the skips and the places of the entries
+pub entries-same : {s t : Store} {c d k skip skip′ : ℕ} {out out′ : List ℕ} {j j′ l l′ : ℕ} → Entry s c k skip out j l → Entry t d k skip′ out′ j′ l′
+    → begins t d k j′ l′ ≡ begins s c k j l → (1 ≤ k → k ≤ 96 → window (flagsOf t) (begins s c k j l) k ≡ window (flagsOf s) (begins s c k j l) k)
+    → entry t d k skip′ out′ j′ l′ ≡ entry s c k skip out j l
+entries-same {s} {t} {c} {d} {k} {skip} {skip′} {out} {out′} {j} {j′} {l} {l′} e f same h =
+    let W = window-open (s .bytes) 0 (s .len) c k (windows-open (s .bytes) 0 (s .len) c k skip (length out) (e .done) .0) in
+    entry-is f
+    ∙ ap (λ (p : ℕ). pick (window (flagsOf t) p k) 0xffff_ffff 0) same
+    ∙ ap (λ (x : Bool). pick x 0xffff_ffff 0) (h (W .low) (W .high))
+    ∙ sym (entry-is e)
+
 -- a call keeps the value of an entry whose window lies in the track before and after, and holds no position that the call, if it is done,
--- overwrites; whatever the contexts, the skips and the places of the two entries
+-- overwrites
 pub entries-kept : (s : Store) (call : Call) {c d k skip skip′ : ℕ} {out out′ : List ℕ} {j j′ l l′ : ℕ}
     → Entry s c k skip out j l → Entry (step 1 s call) d k skip′ out′ j′ l′
     → begins (step 1 s call) d k j′ l′ ≡ begins s c k j l
     → begins s c k j l + k ≤ s .len → begins s c k j l + k ≤ step 1 s call .len
     → ((i : ℕ) → begins s c k j l ≤ i → i < begins s c k j l + k → Done ≡ outcome 1 (length (s .bytes)) (s .len) call → Overwrites call i → ⊥)
     → entry (step 1 s call) d k skip′ out′ j′ l′ ≡ entry s c k skip out j l
-entries-kept s call {c} {d} {k} {skip} {skip′} {out} {out′} {j} {j′} {l} {l′} e f same a b h =
-    let W = window-open (s .bytes) 0 (s .len) c k (windows-open (s .bytes) 0 (s .len) c k skip (length out) (e .done) .0) in
-    entry-is f
-    ∙ ap (λ (p : ℕ). pick (window (flagsOf (step 1 s call)) p k) 0xffff_ffff 0) same
-    ∙ ap (λ (t : Bool). pick t 0xffff_ffff 0) (windows-kept s call (begins s c k j l) k (W .low) (W .high) a b h)
-    ∙ sym (entry-is e)
+entries-kept s call {c} {k} {j} {l} e f same a b h = entries-same e f same (λ lo hi. windows-kept s call (begins s c k j l) k lo hi a b h)
 
 -- after a clear that is accepted and the calls cs
 module _ (bs : List ℕ) (old : ℕ) (e : outcome 1 (length bs) 0 clear ≡ Done) (cs : List Call) where

@@ -8,3 +8,4 @@ pub mod Viewed
 pub mod Answered
 pub mod Decided
 pub mod Lowest
+pub mod Refused

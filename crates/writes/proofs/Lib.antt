@@ -4,3 +4,4 @@ pub mod TableLaws
 pub mod Viewed
 pub mod Decided
 pub mod Lowest
+pub mod Refused
