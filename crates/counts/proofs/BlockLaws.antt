@@ -1,12 +1,12 @@
 -- The laws of blocks: a block of a track by its characters, which blocks a range meets, and entries counted afresh.
 -- Assumes nothing.
-use mathlib.Core.Bool.{true, false}
+use mathlib.Core.Bool.{Bool, true, false}
 use mathlib.Core.List.{List}
-use mathlib.Core.Path.{_≡_, sym, ap, _∙_}
+use mathlib.Core.Path.{_≡_, refl, sym, ap, _∙_}
 use Prim.Native.Nat.{ℕ, _+_, _-_, _*_, _/_, _≤_, _<_, min, max}
 use native.Mathlib.Nat.{zero-add}
 use native.Mathlib.Omega.{arith}
-use borrow.Author.Tests.{lt-ltb, le-ltb, ltb-false}
+use borrow.Author.Tests.{lt-ltb, le-ltb, ltb-true, ltb-false}
 use lib.ListN.{length, getD}
 use lib.Seq.{ext-getD}
 use Rattle.codes.specs.Codes.{chars}
@@ -21,21 +21,30 @@ use Rattle.counts.specs.Blocks.{size, blocks, block, meets, recounted}
 pub block-chars : (bs : List ℕ) (len b : ℕ) → block (chars 1 bs 0 len) b ≡ chars 1 bs (b * size) (min (b * size + size) len - b * size)
 block-chars bs len b = chars-slice 1 bs 0 len (b * size) (b * size + size) ∙ ap (λ (o : ℕ). chars 1 bs o (min (b * size + size) len - b * size)) (zero-add (b * size))
 
+-- a test that does not fail holds, and one that does not hold fails
+is-true : (t : Bool) → (t ≡ false → ⊥) → t ≡ true
+is-true true h = refl
+is-true false h = absurd (h refl)
+
+is-false : (t : Bool) → (t ≡ true → ⊥) → t ≡ false
+is-false true h = absurd (h refl)
+is-false false h = refl
+
 -- a block that has a character of a range, and one that has none
 pub meets-yes : (start end b : ℕ) → start < end → start / size ≤ b → b < blocks end → meets (start, end) b ≡ true
-meets-yes start end b h l k = lt-ltb (max start (b * size)) (min end (b * size + size)) (omega arith)
+meets-yes start end b h l k = is-true _ (λ e. omega (arith, ltb-false))
 
 pub meets-before : (start end b : ℕ) → b < start / size → meets (start, end) b ≡ false
-meets-before start end b h = le-ltb (max start (b * size)) (min end (b * size + size)) (omega arith)
+meets-before start end b h = is-false _ (λ e. omega (arith, ltb-true))
 
 pub meets-behind : (start end b : ℕ) → blocks end ≤ b → meets (start, end) b ≡ false
-meets-behind start end b h = le-ltb (max start (b * size)) (min end (b * size + size)) (omega arith)
+meets-behind start end b h = is-false _ (λ e. omega (arith, ltb-true))
 
 pub meets-none : (start end b : ℕ) → end ≤ start → meets (start, end) b ≡ false
-meets-none start end b h = le-ltb (max start (b * size)) (min end (b * size + size)) (omega arith)
+meets-none start end b h = is-false _ (λ e. omega (arith, ltb-true))
 
 pub meets-no : (range : ℕ × ℕ) (b : ℕ) → meets range b ≡ false → min (range .1) (b * size + size) ≤ max (range .0) (b * size)
-meets-no range b e = ltb-false (max (range .0) (b * size)) (min (range .1) (b * size + size)) e
+meets-no range b e = omega (arith, ltb-false)
 
 module _ (entries : List ℕ) (range : ℕ × ℕ) (flags : List ℕ) where
   pub recounted-length : length (recounted entries range flags) ≡ length entries
@@ -45,14 +54,14 @@ module _ (entries : List ℕ) (range : ℕ × ℕ) (flags : List ℕ) where
   -- an entry that is counted afresh
   pub entry-fresh : (b : ℕ) → b < length entries → b < blocks (length flags) → meets range b ≡ true → getD (recounted entries range flags) b 0 ≡ setFlags (block flags b)
   unfolding recounted
-  entry-fresh b l k m = getD-tab (length entries) _ b l ∙ rw (lt-ltb b (blocks (length flags)) k, m)
+  entry-fresh b l k m = getD-tab (length entries) _ b l ∙ rw (lt-ltb b (blocks (length flags)) k, m) (omega arith)
 
   -- an entry that keeps its number
   pub entry-kept : (b : ℕ) → b < length entries → (b < blocks (length flags) → meets range b ≡ false) → getD (recounted entries range flags) b 0 ≡ getD entries b 0
   unfolding recounted
   entry-kept b l h =
       getD-tab (length entries) _ b l
-      ∙ below-or b (blocks (length flags)) (λ k. rw (lt-ltb b (blocks (length flags)) k, h k)) (λ k. rw (le-ltb b (blocks (length flags)) k))
+      ∙ below-or b (blocks (length flags)) (λ k. rw (lt-ltb b (blocks (length flags)) k, h k) (omega arith)) (λ k. rw (le-ltb b (blocks (length flags)) k) (omega arith))
 
 -- where no character is touched every entry stays
 pub recounted-none : (entries : List ℕ) (start end : ℕ) (flags : List ℕ) → end ≤ start → entries ≡ recounted entries (start, end) flags

@@ -1,19 +1,26 @@
 -- What a call of each kind leaves is a `step` of the history, by its contract as the checker reads it from the source: whatever satisfies
--- the contract, the buffer and the entries at exit and the length answered are those of the entry store after the call.
+-- the contract, the buffer and the entries at exit and the length answered are those of the entry store after the call. And what a query answers of what
+-- such calls leave is the plain count of the flags which they alone give.
 -- Assumes nothing.
 use borrow.Fn.Kinds.{Out, PK, RK, Dens, resT, endedOf}
 use contract.Lifetimes.{Lfts}
 use denote.Ref.{now}
 use denote.Triple.Clauses.{AtExit}
-use mathlib.Core.List.{List}
+use mathlib.Core.List.{List, [], _∷_}
 use mathlib.Core.Path.{_≡_, sym, _∙_}
 use Prim.Native.Nat.{ℕ}
-use Rattle.codes.specs.Refusals.{Answer}
+use lib.ListN.{length}
+use lib.Seq.{slice}
+use Rattle.codes.specs.Refusals.{Answer, answer, first, badEnd, badStart}
+use Rattle.codes.specs.declared.refusals.Outcome.the-variants.{Done}
+use Rattle.fields.specs.Flags.{setFlags}
 use Rattle.stores.specs.Answers.{pushedSays, keptSays}
 use Rattle.stores.specs.Stores.{Call, clear, pushAscii, pushSeq, overwrite, cut, outcome, answered, after}
-use Rattle.counts.specs.Counts.{countedOutcome, countedAnswer, bytesAfter}
-use Rattle.counts.specs.History.{Counted, step}
+use Rattle.counts.specs.Answers.{countSays}
+use Rattle.counts.specs.Counts.{countedOutcome, countedAnswer, bytesAfter, queried}
+use Rattle.counts.specs.History.{Counted, step, run, history}
 use Rattle.counts.proofs.CallLaws.{clear-entries}
+use Rattle.counts.proofs.Counted.{history-counted}
 use Rattle.counts.proofs.flags.clear.Kinds as clear·kinds
 use Rattle.counts.proofs.flags.clear.Reads as clear
 use Rattle.counts.proofs.flags.push_ascii.Kinds as push-ascii·kinds
@@ -24,6 +31,8 @@ use Rattle.counts.proofs.flags.overwrite.Kinds as overwrite·kinds
 use Rattle.counts.proofs.flags.overwrite.Reads as overwrite
 use Rattle.counts.proofs.flags.cut.Kinds as cut·kinds
 use Rattle.counts.proofs.flags.cut.Reads as cut
+use Rattle.counts.proofs.flags.count.Kinds as count·kinds
+use Rattle.counts.proofs.flags.count.Reads as count
 
 abbrev counted : List ℕ → ℕ → List ℕ → Counted
 counted bytes len entries = record { store = record { bytes = bytes; len = len }; entries = entries }
@@ -57,3 +66,15 @@ overwrite-called κs a x s p = λ i. counted (p .1 .0 i) (p .0 i .values .2) (p 
 pub cut-called : Steps 2 cut·kinds.ps cut·kinds.r cut.Post (λ κs. keptSays) (λ κs s. (now (s .0), now (s .1 .1 .0)))
     (λ κs a. counted (now (a .0)) (a .1 .0 .0) (now (a .1 .1 .0))) (λ κs a. cut (a .1 .1 .1 .0 .0))
 cut-called κs a x s p = λ i. counted (p .1 .0 i) (p .0 i .values .2) (p .1 .1 i)
+
+-- of what an accepted clear and the calls cs leave
+pub count-called : (bs : List ℕ) (old : ℕ) (entries : List ℕ) → countedOutcome (length bs) 0 (length entries) clear ≡ Done → (cs : List Call)
+    → (κs : Lfts 2) (a : Dens κs count·kinds.ps) (x : resT count·kinds.r κs .Denot) (s : AtExit (endedOf 2 count·kinds.ps count·kinds.r) κs) → count.Post κs a x s
+    → counted (now (a .0)) (a .1 .0 .0) (now (a .1 .1 .0)) ≡ run (step (counted bs old entries) clear) cs
+    → countSays x
+    ≡ answer (first (badEnd (length (history (length bs) (length entries) [] cs)) (a .1 .1 .1 .1 .0 .0) ∷ badStart (a .1 .1 .1 .0 .0) (a .1 .1 .1 .1 .0 .0) ∷ []))
+    (setFlags (slice (a .1 .1 .1 .0 .0) (a .1 .1 .1 .1 .0 .0) (history (length bs) (length entries) [] cs))) 0
+count-called bs old entries e cs κs a x s p q =
+    let start : ℕ = a .1 .1 .1 .0 .0 in
+    let end : ℕ = a .1 .1 .1 .1 .0 .0 in
+    p ∙ (λ i. queried (q i .store .bytes) (q i .store .len) (q i .entries) start end) ∙ history-counted bs old entries e cs start end

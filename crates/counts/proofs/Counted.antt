@@ -1,23 +1,27 @@
 -- With right entries the query is the plain count of its range: the whole blocks' entries are the counts of their flags, and the ends are counted.
--- Refused, it gives its number and 0 whatever they are.
+-- Refused, it gives its number and 0 whatever they are. After an accepted clear and any of these calls it is the plain count of the flags which the calls
+-- alone give, and only its range is judged.
 -- Assumes nothing.
-use mathlib.Core.List.{List}
+use mathlib.Core.List.{List, [], _∷_}
 use mathlib.Core.Path.{_≡_, refl, sym, ap, ap₂, _∙_}
-use Prim.Native.Nat.{ℕ, zero, suc, _+_, _-_, _*_, _/_, _≤_, min}
+use Prim.Native.Nat.{ℕ, zero, suc, _+_, _-_, _*_, _/_, _^_, _≤_, min}
 use native.Mathlib.Omega.{arith}
-use borrow.Author.Tests.{ltb-false}
+use borrow.Author.Tests.{le-ltb, ltb-false}
 use lib.ListN.{length}
 use lib.Seq.{slice}
-use Rattle.codes.specs.Codes.{chars}
-use Rattle.codes.specs.Refusals.{answer, first}
+use Rattle.codes.specs.Codes.{up, trailing, chars}
+use Rattle.codes.specs.Refusals.{answer, first, badEnd, badStart}
 use Rattle.codes.specs.declared.refusals.Outcome.the-variants.{Done}
 use Rattle.codes.proofs.CharLaws.{length-chars}
 use Rattle.codes.proofs.WidthLaws.{below-or}
 use Rattle.fields.specs.Flags.{sum, setFlags}
+use Rattle.stores.specs.Stores.{Call, clear}
 use Rattle.stores.proofs.CallLaws.{done-passed, by-outcome}
 use Rattle.counts.specs.Blocks.{size, blocks, wholeFrom, wholeTo, rangeCount}
-use Rattle.counts.specs.Counts.{queryTests, queried}
-use Rattle.counts.specs.History.{Right}
+use Rattle.counts.specs.Counts.{countedOutcome, queryTests, queried}
+use Rattle.counts.specs.History.{Counted, Right, step, run, history}
+use Rattle.counts.proofs.History as Histories
+use Rattle.counts.proofs.HistoryLaws.{run-kept, run-right, cleared-kept, cleared-length, cleared-right}
 use Rattle.counts.proofs.SumLaws.{sum-more, sum-none, sum-parts}
 
 module _ (entries flags : List ℕ) (enough : blocks (length flags) ≤ length entries) (R : Right entries flags) where
@@ -70,3 +74,27 @@ counted bs len entries start end R =
     let many : blocks len ≤ length entries = ltb-false (length entries) (blocks len) (p .1 .1 .1 .1 .0) in
     ap (λ (n : ℕ). answer Done n 0) (range-counted entries flags (omega arith) R start end starts (omega arith)))
     (λ r e. refl)
+
+-- after a clear that is accepted and the calls cs
+module _ (bs : List ℕ) (old : ℕ) (entries : List ℕ) (e : countedOutcome (length bs) 0 (length entries) clear ≡ Done) (cs : List Call) where
+  abbrev s : Counted
+  s = run (step (record { store = record { bytes = bs; len = old }; entries = entries }) clear) cs
+
+  abbrev h : List ℕ
+  h = history (length bs) (length entries) [] cs
+
+  pub history-counted : (start end : ℕ)
+      → queried (s .store .bytes) (s .store .len) (s .entries) start end ≡ answer (first (badEnd (length h) end ∷ badStart start end ∷ [])) (setFlags (slice start end h)) 0
+  history-counted start end =
+      let t : Counted = step (record { store = record { bytes = bs; len = old }; entries = entries }) clear in
+      let K = run-kept cs t [] (length bs) (length entries) (cleared-kept bs old entries e) (cleared-length bs old entries e) in
+      let H = Histories.history bs old entries e cs in
+      let n : s .store .len ≡ length h = K .lengths in
+      let sound : up 1 (s .store .len) + trailing ≤ length (s .store .bytes) = omega (arith, K .holds .room) in
+      let enough : blocks (s .store .len) ≤ length (s .entries) = omega (arith, H .enough) in
+      let a = le-ltb (2 ^ 28) (length (s .store .bytes)) (K .holds .small) in
+      let b = le-ltb (length (s .store .bytes)) (up 1 (s .store .len) + trailing) sound in
+      let c = le-ltb (length (s .entries)) (blocks (s .store .len)) enough in
+      counted (s .store .bytes) (s .store .len) (s .entries) start end (run-right cs t (cleared-right bs old entries e))
+      ∙ rw (a, b, c)
+      (λ i. answer (first (badEnd (n i) end ∷ badStart start end ∷ [])) (setFlags (slice start end (H .packed .chars-are i))) 0)

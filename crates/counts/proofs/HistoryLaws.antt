@@ -33,8 +33,13 @@ entries-length bs len entries call =
     (countedOutcome (length bs) len (length entries) call) (λ e. recounted-length entries (touched len (deed 1 len call)) (newFlags bs len call)) (λ r e. refl)
 
 -- a call that is done leaves the store that the plain call leaves
-done-store : (s : Counted) (call : Call) → countedOutcome (length (s .store .bytes)) (s .store .len) (length (s .entries)) call ≡ Done → Plain.step 1 (s .store) call ≡ step s call .store
+pub done-store : (s : Counted) (call : Call) → countedOutcome (length (s .store .bytes)) (s .store .len) (length (s .entries)) call ≡ Done → Plain.step 1 (s .store) call ≡ step s call .store
 done-store s call e = let left = done-left (s .store .bytes) (s .store .len) (s .entries) call e in λ i. record { bytes = left .1 .0 i; len = left .0 i .values .2 }
+
+-- one that is refused leaves every byte, and the old length
+pub refused-store : (s : Counted) (call : Call) (r : Refusal) → countedOutcome (length (s .store .bytes)) (s .store .len) (length (s .entries)) call ≡ Refused r
+    → record { bytes = s .store .bytes; len = oldLength (s .store .len) call } ≡ step s call .store
+refused-store s call r e = let left = refused-left (s .store .bytes) (s .store .len) (s .entries) call r e in λ i. record { bytes = left .1 .0 i; len = left .0 i .values .2 }
 
 module _ (s : Counted) (h : List ℕ) (m n : ℕ) (K : Kept width-1 (s .store) h m) (E : length (s .entries) ≡ n) (c : Call) where
   abbrev bs : List ℕ
@@ -67,8 +72,7 @@ module _ (s : Counted) (h : List ℕ) (m n : ℕ) (K : Kept width-1 (s .store) h
 
   step-refused : (r : Refusal) → countedOutcome (length bs) len (length (s .entries)) c ≡ Refused r → Kept width-1 (step s c .store) (charsAfter h (edit m n (length h) c)) m
   step-refused r e =
-      let kept = refused-left bs len (s .entries) c r e in
-      let left : s .store ≡ step s c .store = λ i. record { bytes = kept .1 .0 i; len = (sym (old-length c r e) ∙ ap (λ (a : _). a .values .2) (kept .0)) i } in
+      let left : s .store ≡ step s c .store = (λ i. record { bytes = bs; len = sym (old-length c r e) i }) ∙ refused-store s c r e in
       subst (λ (t : Store). Kept width-1 t (charsAfter h (edit m n (length h) c)) m) left
       (subst (λ (o : Outcome). Kept width-1 (s .store) (charsAfter h (ifDone o (deed 1 (length h) c) still)) m) (sym (sym judged ∙ e)) K)
 

@@ -3,9 +3,11 @@ pub mod BlockLaws
 pub mod CallLaws
 pub mod TouchLaws
 pub mod CountsRight
-pub mod Counted
 pub mod HistoryLaws
 pub mod History
+pub mod Counted
+pub mod Mixed
+pub mod Carried
 pub mod AnswerLaws
 pub mod Lowest
 pub mod Viewed
@@ -13,3 +15,4 @@ pub mod Untouched
 pub mod Decided
 pub mod Called
 pub mod Rna
+pub mod Refused
