@@ -57,11 +57,11 @@ module _ (big : Bool) (file : List ℕ) (r : ℕ) (cs fs rest : List ℕ) (equal
   at-sizes = behind file (r + 4 + 4) (4 * length (runs fs)) (each big (λ r. r .start) (runs fs)) from-sizes (length-each big (λ r. r .start) (runs fs)) at-starts
 
   -- the numbers
-  size-back : sizeAt big file r ≡ length fs
+  pub size-back : sizeAt big file r ≡ length fs
   unfolding sizeAt
   size-back = number-back file big 4 (length fs) r from-count few at-size
 
-  count-back : blockCount big file (r + 4) ≡ length (runs fs)
+  pub count-back : blockCount big file (r + 4) ≡ length (runs fs)
   unfolding blockCount
   count-back = number-back file big 4 (length (runs fs)) (r + 4) from-starts (omega (arith, runs-few 0 fs)) at-count
 
@@ -141,7 +141,7 @@ module _ (big : Bool) (file : List ℕ) (r : ℕ) (cs fs rest : List ℕ) (equal
 
 module _ (big : Bool) (file : List ℕ) (k at : ℕ) (name : List ℕ) (off : ℕ) (rest : List ℕ) (e : drop at file ≡ entryOf big k name off ++ rest) where
   -- its name's size, its name, the record's offset
-  name-size : nameSize big file at ≡ length name
+  pub name-size : nameSize big file at ≡ length name
   unfolding entryOf
   name-size = ap (λ (n : ℕ). getD file n 0) (let q : at ≡ at + 0 = omega arith in q) ∙ sym (getD-drop at file 0 0) ∙ ap (λ (l : List ℕ). getD l 0 0) e
 
@@ -162,7 +162,7 @@ module _ (big : Bool) (file : List ℕ) (k at : ℕ) (name : List ℕ) (off : �
       ∙ number-back file big k off (suc at + length name) rest h (behind file (suc at) (length name) name (spelled big k off ++ rest) refl at-name)
 
   -- its end, and what stands behind
-  entry-end : entryEnd big file k at ≡ at + suc (length name + k)
+  pub entry-end : entryEnd big file k at ≡ at + suc (length name + k)
   entry-end = ap (λ (n : ℕ). at + suc (n + k)) name-size
 
   pub entry-within : entryEnd big file k at ≤ length file

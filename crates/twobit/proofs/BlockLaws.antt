@@ -123,23 +123,30 @@ unfolding clearOf
 clear-empty a [] e = refl
 clear-empty a (b ∷ bs) e = clear-skip a b bs (omega arith) ∙ clear-empty a bs e
 
--- every block with a position starts at `low` or behind
-abbrev pub From : ℕ → List Run → Type 0
-From low [] = Unit {0}
-From low (b ∷ bs) = (0 < b .size → low ≤ b .start) × From low bs
+-- every block with a position lies between `low` and `high`
+abbrev pub Between : ℕ → ℕ → List Run → Type 0
+Between low high [] = Unit {0}
+Between low high (b ∷ bs) = (0 < b .size → (low ≤ b .start) × (end b ≤ high)) × Between low high bs
 
--- a lower bound serves too
-From-lower : (low k : ℕ) (bs : List Run) → k ≤ low → From low bs → From k bs
-From-lower low k [] l h = tt
-From-lower low k (b ∷ bs) l h = ((λ p. le-trans l (h .0 p)), From-lower low k bs l (h .1))
+-- wider bounds serve too
+Between-wider : (low high k m : ℕ) (bs : List Run) → k ≤ low → high ≤ m → Between low high bs → Between k m bs
+Between-wider low high k m [] l r h = tt
+Between-wider low high k m (b ∷ bs) l r h = ((λ p. (le-trans l (h .0 p .0), le-trans (h .0 p .1) r)), Between-wider low high k m bs l r (h .1))
 
--- a block that ends before the others start shares nothing with them
-pub clear-below : (a : Run) (low : ℕ) (bs : List Run) → end a ≤ low → From low bs → clearOf a bs ≡ true
+-- a block that ends before the others start shares nothing with them, nor does one that starts where they have ended
+pub clear-below : (a : Run) (low high : ℕ) (bs : List Run) → end a ≤ low → Between low high bs → clearOf a bs ≡ true
 unfolding clearOf
-clear-below a low [] l h = refl
-clear-below a low (b ∷ bs) l h =
-    clear-skip a b bs (below-or 0 (b .size) (λ p. let q : low ≤ b .start = h .0 p in omega arith) (λ p. omega arith))
-    ∙ clear-below a low bs l (h .1)
+clear-below a low high [] l h = refl
+clear-below a low high (b ∷ bs) l h =
+    clear-skip a b bs (below-or 0 (b .size) (λ p. let q : low ≤ b .start = h .0 p .0 in omega arith) (λ p. omega arith))
+    ∙ clear-below a low high bs l (h .1)
+
+pub clear-above : (a : Run) (low high : ℕ) (bs : List Run) → high ≤ a .start → Between low high bs → clearOf a bs ≡ true
+unfolding clearOf
+clear-above a low high [] l h = refl
+clear-above a low high (b ∷ bs) l h =
+    clear-skip a b bs (below-or 0 (b .size) (λ p. let q : end b ≤ high = h .0 p .1 in omega arith) (λ p. omega arith))
+    ∙ clear-above a low high bs l (h .1)
 
 -- `&&` with a known right side
 and-false : (x : Bool) → x && false ≡ false
@@ -155,9 +162,9 @@ pub apart-none : (f : ℕ → Run) (n : ℕ) → true ≡ apart (blocksFrom f n 
 unfolding apart
 apart-none f n = rw (blocks-none f n)
 
--- none: any bound
-pub From-none : (low : ℕ) (f : ℕ → Run) (n : ℕ) → From low (blocksFrom f n (n - n))
-From-none low f n = rw (blocks-none f n) tt
+-- none: any bounds
+pub Between-none : (low high : ℕ) (f : ℕ → Run) (n : ℕ) → Between low high (blocksFrom f n (n - n))
+Between-none low high f n = rw (blocks-none f n) tt
 
 module _ (f : ℕ → Run) (i n : ℕ) (h : 0 < i) (l : i ≤ n) where
   -- the new block is clear of the others
@@ -178,6 +185,7 @@ module _ (f : ℕ → Run) (i n : ℕ) (h : 0 < i) (l : i ≤ n) where
       let k : i - 1 + 1 ≡ i = omega arith in
       rw (blocks-down f i n h l, ← e) (c ∙ ap (λ (j : ℕ). clearOf (f (i - 1)) (blocksFrom f j (n - j))) k ∙ sym (and-true (clearOf (f (i - 1)) (blocksFrom f i (n - i)))))
 
-  -- the bound of one block more
-  pub From-next : (low k : ℕ) → k ≤ low → (0 < f (i - 1) .size → k ≤ f (i - 1) .start) → From low (blocksFrom f i (n - i)) → From k (blocksFrom f (i - 1) (n - (i - 1)))
-  From-next low k d e t = rw (blocks-down f i n h l) (e, From-lower low k (blocksFrom f i (n - i)) d t)
+  -- the bounds of one block more
+  pub Between-next : (low high k m : ℕ) → k ≤ low → high ≤ m → (0 < f (i - 1) .size → (k ≤ f (i - 1) .start) × (end (f (i - 1)) ≤ m))
+      → Between low high (blocksFrom f i (n - i)) → Between k m (blocksFrom f (i - 1) (n - (i - 1)))
+  Between-next low high k m d u e t = rw (blocks-down f i n h l) (e, Between-wider low high k m (blocksFrom f i (n - i)) d u t)

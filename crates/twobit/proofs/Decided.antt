@@ -6,14 +6,16 @@ use Rattle.codes.specs.declared.refusals.Outcome.{Outcome}
 use Rattle.codes.specs.declared.refusals.Outcome.the-variants.{Done, Refused}
 use Rattle.codes.proofs.Permitted.{Decided, Once, skip}
 use Rattle.codes.proofs.RefusalLaws.{Told, outcomeAt, outcomeAt-number, says-once}
-use Rattle.twobit.specs.Answers.{sizedSays, cursorSays, entrySays, readSays}
-use Rattle.twobit.specs.Reading.{Entered, noEntry}
+use Rattle.twobit.specs.Answers.{sizedSays, cursorSays, entrySays, infoSays, readSays}
+use Rattle.twobit.specs.Reading.{Entered, noEntry, Informed, noInfo}
 use Rattle.twobit.specs.declared.answers.Sized.{Sized}
 use Rattle.twobit.specs.declared.answers.Sized.the-variants as Sized
 use Rattle.twobit.specs.declared.answers.Cursor.{Cursor}
 use Rattle.twobit.specs.declared.answers.Cursor.the-variants as Cursor
 use Rattle.twobit.specs.declared.answers.Entry.{Entry}
 use Rattle.twobit.specs.declared.answers.Entry.the-variants as Entry
+use Rattle.twobit.specs.declared.answers.Info.{Info}
+use Rattle.twobit.specs.declared.answers.Info.the-variants as Info
 use Rattle.twobit.specs.declared.answers.Read.{Read}
 use Rattle.twobit.specs.declared.answers.Read.the-variants as Read
 use Rattle.twobit.proofs.reading.check.Kinds as check·kinds
@@ -22,6 +24,8 @@ use Rattle.twobit.proofs.reading.first.Kinds as first·kinds
 use Rattle.twobit.proofs.reading.first.Reads as first
 use Rattle.twobit.proofs.reading.entry.Kinds as entry·kinds
 use Rattle.twobit.proofs.reading.entry.Reads as entry
+use Rattle.twobit.proofs.reading.record_info.Kinds as record-info·kinds
+use Rattle.twobit.proofs.reading.record_info.Reads as record-info
 use Rattle.twobit.proofs.reading.record.Kinds as record·kinds
 use Rattle.twobit.proofs.reading.record.Reads as record·reads
 
@@ -58,6 +62,17 @@ entry-back (Entry.Refused r) = sym (ap (λ (o : Outcome). entryOf o noEntry) (ou
 pub entry-told : Told entrySays
 entry-told = record { make = entryOf; back = entry-back }
 
+abbrev infoOf : Outcome → Informed → Info
+infoOf Done x = Info.Is (record { 0 = x .0 }) (x .1 .0) (x .1 .1)
+infoOf (Refused r) x = Info.Refused r
+
+info-back : (r : Info) → r ≡ infoOf (outcomeAt (infoSays r .no)) (infoSays r .values)
+info-back (Info.Is n blocks masks) = sym (ap (λ (o : Outcome). infoOf o (n .0, (blocks, masks))) (outcomeAt-number Done))
+info-back (Info.Refused r) = sym (ap (λ (o : Outcome). infoOf o noInfo) (outcomeAt-number (Refused r)))
+
+pub info-told : Told infoSays
+info-told = record { make = infoOf; back = info-back }
+
 abbrev readOf : Outcome → ℕ × ℕ → Read
 readOf Done x = Read.Is (record { 0 = x .0 }) (x .1)
 readOf (Refused r) x = Read.Refused r
@@ -77,6 +92,9 @@ first-decided κs a x y s t p q = says-once cursor-told x y (p ∙ sym q)
 
 pub entry-decided : Decided 1 entry·kinds.ps entry·kinds.r entry.Post
 entry-decided κs a x y s t p q = says-once entry-told x y (p ∙ sym q)
+
+pub record-info-decided : Decided 1 record-info·kinds.ps record-info·kinds.r record-info.Post
+record-info-decided κs a x y s t p q = says-once info-told x y (p ∙ sym q)
 
 pub record-decided : Once 3 record·kinds.ps record·kinds.r record·reads.Post
 record-decided κs a x y v w p q =

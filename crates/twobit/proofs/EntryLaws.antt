@@ -11,11 +11,11 @@ use borrow.Author.Tests.{le-leb, lt-leb, leb-true, leb-false}
 use lib.Dec.{leb, eqb}
 use lib.ListN.{length}
 use Rattle.codes.specs.Codes.{pick}
+use Rattle.codes.proofs.RefusalLaws.{both}
 use Rattle.dna.specs.Numbers.{numberAt}
-use Rattle.twobit.specs.Inner.{Places, partsOf, entryFound, entrySound}
+use Rattle.twobit.specs.Inner.{entryFound, entrySound}
 use Rattle.twobit.specs.Reading.{signed, isBig, goodHeader, sequences, nameSize, offsetAt, entryEnd, isRecord, areEntries}
 use Rattle.twobit.proofs.PickLaws.{and-false, and-and, found-none, found-some, found-cut, found-whole, none-test, some-test, some-value}
-use Rattle.twobit.proofs.RecordLaws.{recordFound}
 
 module _ (file : List ℕ) where
   -- the header, where it is a right one
@@ -123,24 +123,21 @@ module _ (big : Bool) (k : ℕ) (file : List ℕ) (at : ℕ) where
   soundRecord = isRecord big file (offsetAt big file k at)
 
   sound-none : (inFile && soundRecord) ≡ false → none ≡ entrySound big k file at
-  sound-none e = found-none (inFile && soundRecord) (entryEnd big file k at) e
+  sound-none e = found-none (inFile && soundRecord) (entryEnd big file k at, offsetAt big file k at) e
 
   -- the entry is cut; its record is bad; both are sound
   pub sound-cut : entryFound big k file at ≡ none → none ≡ entrySound big k file at
   sound-cut e = sound-none (ap (λ (t : Bool). t && soundRecord) (lt-leb (entryEnd big file k at) (length file) (entry-none e)))
 
   module _ (size offset end : ℕ) (h : Noted size offset end) where
-    pub sound-bad : recordFound big file offset ≡ none → none ≡ entrySound big k file at
-    sound-bad e =
-        sound-none
-        (ap (λ (t : Bool). inFile && t) (ap (isRecord big file) (sym (h .placed)) ∙ none-test (isRecord big file offset) (partsOf big file offset) e) ∙ and-false inFile)
+    pub sound-bad : isRecord big file offset ≡ false → none ≡ entrySound big k file at
+    sound-bad e = sound-none (ap (λ (t : Bool). inFile && t) (ap (isRecord big file) (sym (h .placed)) ∙ e) ∙ and-false inFile)
 
-    pub sound-good : (x : Places) → recordFound big file offset ≡ some x → some end ≡ entrySound big k file at
-    sound-good x e =
-        found-some (inFile && soundRecord) (entryEnd big file k at) end
-        (ap₂ (λ (s t : Bool). s && t) (le-leb (entryEnd big file k at) (length file) (h .within))
-        (ap (isRecord big file) (sym (h .placed)) ∙ some-test (isRecord big file offset) (partsOf big file offset) x e))
-        (h .behind)
+    pub sound-good : isRecord big file offset ≡ true → some (end, offset) ≡ entrySound big k file at
+    sound-good e =
+        found-some (inFile && soundRecord) (entryEnd big file k at, offsetAt big file k at) (end, offset)
+        (ap₂ (λ (s t : Bool). s && t) (le-leb (entryEnd big file k at) (length file) (h .within)) (ap (isRecord big file) (sym (h .placed)) ∙ e))
+        (ap₂ (λ (m n : ℕ). (m, n)) (h .behind) (h .placed))
 
   -- ---- n entries from here on
 
@@ -158,12 +155,24 @@ module _ (big : Bool) (k : ℕ) (file : List ℕ) (at : ℕ) where
   entries-bad zero l e = absurd (omega arith)
   entries-bad (suc n) l e =
       entries-first n
-      ∙ ap (λ (t : Bool). t && areEntries big file k n (entryEnd big file k at)) (none-test (inFile && soundRecord) (entryEnd big file k at) e)
+      ∙ ap (λ (t : Bool). t && areEntries big file k n (entryEnd big file k at)) (none-test (inFile && soundRecord) (entryEnd big file k at, offsetAt big file k at) e)
 
-  pub entries-next : (n end : ℕ) → 0 < n → entrySound big k file at ≡ some end → areEntries big file k n at ≡ areEntries big file k (n - 1) end
-  entries-next zero end l e = absurd (omega arith)
-  entries-next (suc n) end l e =
-      let m : n ≡ suc n - 1 = omega arith in
-      entries-first n
-      ∙ ap (λ (t : Bool). t && areEntries big file k n (entryEnd big file k at)) (some-test (inFile && soundRecord) (entryEnd big file k at) end e)
-      ∙ ap₂ (areEntries big file k) m (sym (some-value (inFile && soundRecord) (entryEnd big file k at) end e))
+  module _ (end offset : ℕ) (e : entrySound big k file at ≡ some (end, offset)) where
+    abbrev found : ℕ × ℕ
+    found = (entryEnd big file k at, offsetAt big file k at)
+
+    value : _≡_ {A = ℕ × ℕ} (end, offset) found
+    value = some-value (inFile && soundRecord) found (end, offset) e
+
+    pub entries-next : (n : ℕ) → 0 < n → areEntries big file k n at ≡ areEntries big file k (n - 1) end
+    entries-next zero l = absurd (omega arith)
+    entries-next (suc n) l =
+        let m : n ≡ suc n - 1 = omega arith in
+        entries-first n
+        ∙ ap (λ (t : Bool). t && areEntries big file k n (entryEnd big file k at)) (some-test (inFile && soundRecord) found (end, offset) e)
+        ∙ ap₂ (areEntries big file k) m (sym (ap (λ (x : ℕ × ℕ). x .0) value))
+
+    -- its record is sound
+    pub record-sound : isRecord big file offset ≡ true
+    record-sound =
+        ap (λ (x : ℕ × ℕ). isRecord big file (x .1)) value ∙ both inFile soundRecord (some-test (inFile && soundRecord) found (end, offset) e) .1

@@ -17,7 +17,7 @@ use Rattle.codes.proofs.WidthLaws.{ltb-eq}
 use Rattle.codes.proofs.WordLaws.{Below}
 use Rattle.fields.specs.Runs.{Run, joined, runsFrom, runs}
 use Rattle.twobit.specs.Blocks.{end, allInside, apart, under, flagUnder}
-use Rattle.twobit.proofs.BlockLaws.{From, clear-below}
+use Rattle.twobit.proofs.BlockLaws.{Between, clear-below}
 
 -- one block behind the other, from `low` on and up to `high`
 abbrev pub Laid : ℕ → ℕ → List Run → Type 0
@@ -35,17 +35,17 @@ unfolding allInside
 laid-inside low high [] h = refl
 laid-inside low high (r ∷ rs) h = rw (le-leb (end r) high (h .1 .0)) (laid-inside (end r) high rs (h .1 .1))
 
--- they start behind the bound
-laid-from : (k low high : ℕ) (rs : List Run) → k ≤ low → Laid low high rs → From k rs
-laid-from k low high [] l h = tt
-laid-from k low high (r ∷ rs) l h = ((λ p. le-trans l (h .0)), laid-from k (end r) high rs (omega arith) (h .1 .1))
+-- they lie between the bounds
+laid-between : (k low high : ℕ) (rs : List Run) → k ≤ low → Laid low high rs → Between k high rs
+laid-between k low high [] l h = tt
+laid-between k low high (r ∷ rs) l h = ((λ p. (le-trans l (h .0), h .1 .0)), laid-between k (end r) high rs (omega arith) (h .1 .1))
 
 -- no two share a position
 pub laid-apart : (low high : ℕ) (rs : List Run) → Laid low high rs → apart rs ≡ true
 unfolding apart
 laid-apart low high [] h = refl
 laid-apart low high (r ∷ rs) h =
-    rw (clear-below r (end r) rs (le-refl (end r)) (laid-from (end r) (end r) high rs (le-refl (end r)) (h .1 .1))) (laid-apart (end r) high rs (h .1 .1))
+    rw (clear-below r (end r) high rs (le-refl (end r)) (laid-between (end r) (end r) high rs (le-refl (end r)) (h .1 .1))) (laid-apart (end r) high rs (h .1 .1))
 
 -- nothing before the bound is under them
 under-before : (low high : ℕ) (rs : List Run) (p : ℕ) → p < low → Laid low high rs → under rs p ≡ false

@@ -12,6 +12,10 @@ mod ReadingLaws
 mod ReadyLaws
 mod RecordLaws
 pub mod Decided
+pub mod Called
 pub mod ReadBack
+pub mod ReadCalls
+pub mod InfoTells
 pub mod Sound
 pub mod Lowest
+pub mod Refused

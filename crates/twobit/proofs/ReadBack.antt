@@ -135,10 +135,10 @@ module _ (big : Bool) (version k : ℕ) (ss : List Sequence) where
   unfolding fileOf
   at-header = refl
 
-  at-index : drop headerSize (fileOf big version k ss) ≡ after-header
+  pub at-index : drop headerSize (fileOf big version k ss) ≡ after-header
   at-index = behind file 0 headerSize (headerOf big version (length ss)) after-header (length-header big version (length ss)) at-header
 
-  at-records : drop first (fileOf big version k ss) ≡ recordsOf big ss ++ []
+  pub at-records : drop first (fileOf big version k ss) ≡ recordsOf big ss ++ []
   at-records =
       behind file headerSize (length ss * suc k + namesSize ss) (indexOf big k first ss) (recordsOf big ss) (length-index big k first ss) at-index ∙ sym (append-nil (recordsOf big ss))
 
@@ -196,7 +196,7 @@ module _ (big : Bool) (ss : List Sequence) where
   header-fits =
       within made 0 headerSize (headerOf big 0 (length ss)) (after-header big 0 offsetSize ss) (length-header big 0 (length ss)) (lit< tt) (at-header big 0 offsetSize ss)
 
-  header-good : goodHeader (fileOf big 0 offsetSize ss) ≡ true
+  pub header-good : goodHeader (fileOf big 0 offsetSize ss) ≡ true
   unfolding goodHeader
   header-good =
       let little : signed false made ≡ sameOrder big false = signature-as big false made (from-version big 0 offsetSize ss) (at-signature big 0 offsetSize ss) in

@@ -43,7 +43,7 @@ place-next big file k at zero = refl
 place-next big file k at (suc i) = place-next big file k (entryEnd big file k at) i
 
 -- a record begins within the file
-record-within : (big : Bool) (file : List ℕ) (r : ℕ) → isRecord big file r ≡ true → r < length file
+pub record-within : (big : Bool) (file : List ℕ) (r : ℕ) → isRecord big file r ≡ true → r < length file
 unfolding isRecord blocksEnd
 record-within big file r e =
     let h = leb-true (dnaPlace big file r + up 2 (sizeAt big file r)) (length file) (both _ _ e .0) in

@@ -1,9 +1,10 @@
 -- What functions inside this crate answer.
 -- Assumes nothing.
-use mathlib.Core.Bool.{Bool, false, _&&_}
+use mathlib.Core.Bool.{Bool, true, false, _&&_}
 use mathlib.Core.List.{List}
 use mathlib.Core.Option.{Option, some, none}
-use Prim.Native.Nat.{ℕ, _+_}
+use mathlib.Core.Path.{_≡_}
+use Prim.Native.Nat.{ℕ, _+_, _<_}
 use lib.Dec.{leb}
 use lib.ListN.{length}
 use Rattle.codes.specs.Codes.{pick}
@@ -54,14 +55,19 @@ abbrev pub entryFound : Bool → ℕ → List ℕ → ℕ → Option (ℕ × (�
 entryFound big k file at =
     pick (leb (entryEnd big file k at) (length file)) (some (nameSize big file at, (offsetAt big file k at, entryEnd big file k at))) none
 
--- the byte behind a sound entry
-abbrev pub behindSays : Behind → Option ℕ
-behindSays (Behind.Is end) = some end
+-- the record at byte r, if that lies in the file, is sound
+abbrev pub KnownSound : Bool → List ℕ → ℕ → Type 0
+KnownSound big file r = r < length file → isRecord big file r ≡ true
+
+-- the byte behind a sound entry, and the offset of its record
+abbrev pub behindSays : Behind → Option (ℕ × ℕ)
+behindSays (Behind.Is end offset) = some (end, offset)
 behindSays Behind.Bad = none
 
-abbrev pub entrySound : Bool → ℕ → List ℕ → ℕ → Option ℕ
+abbrev pub entrySound : Bool → ℕ → List ℕ → ℕ → Option (ℕ × ℕ)
 entrySound big k file at =
-    pick (leb (entryEnd big file k at) (length file) && isRecord big file (offsetAt big file k at)) (some (entryEnd big file k at)) none
+    pick (leb (entryEnd big file k at) (length file) && isRecord big file (offsetAt big file k at))
+    (some (entryEnd big file k at, offsetAt big file k at)) none
 
 -- a record that can be read: its byte order; its size; the number of its N blocks, of its mask blocks; where its packed bases begin
 abbrev pub Held : Type 0

@@ -137,6 +137,28 @@ module _ (k : ℕ) (file : List ℕ) (number at : ℕ) where
   entryAnswer =
       answer entryOutcome ((suc at, nameSize (isBig file) file at), (offsetAt (isBig file) file k at, (suc number, entryEnd (isBig file) file k at))) noEntry
 
+-- ---- record_info: the size of the sequence of the record at byte r, and how many N blocks and mask blocks it has
+
+abbrev pub Informed : Type 0
+Informed = ℕ × (ℕ × ℕ)
+
+abbrev pub noInfo : Informed
+noInfo = (0, (0, 0))
+
+abbrev pub badRecord : List ℕ → ℕ → Test
+badRecord file r = badForm (goodHeader file && isRecord (isBig file) file r)
+
+module _ (file : List ℕ) (r : ℕ) where
+  unfoldable pub infoOutcome : Outcome
+  unfolding goodHeader isRecord
+  infoOutcome = first (badRecord file r ∷ [])
+
+  unfoldable pub infoAnswer : Answer Informed
+  unfolding infoOutcome sizeAt blockCount blocksEnd
+  infoAnswer =
+      answer infoOutcome
+      (sizeAt (isBig file) file r, (blockCount (isBig file) file (r + 4), blockCount (isBig file) file (masksPlace (isBig file) file r))) noInfo
+
 -- ---- record: the sequence of the record at byte r into two stores
 
 -- the flags, and the bases with code 3 under each N
@@ -150,7 +172,7 @@ basesOf big file r = basesAt file (dnaPlace big file r) (sizeAt big file r) (fla
 
 abbrev pub recordTests : List ℕ → ℕ → ℕ → ℕ → List Test
 recordTests file r m n =
-    tooLong m ∷ tooLong n ∷ badForm (goodHeader file && isRecord (isBig file) file r) ∷ noRoom m (up 2 (sizeAt (isBig file) file r) + trailing)
+    tooLong m ∷ tooLong n ∷ badRecord file r ∷ noRoom m (up 2 (sizeAt (isBig file) file r) + trailing)
     ∷ noRoom n (up 1 (sizeAt (isBig file) file r) + trailing) ∷ []
 
 module _ (file : List ℕ) (r : ℕ) (bases flags : List ℕ) where

@@ -26,6 +26,16 @@ pub enum Entry {
     Refused(Refusal),
 }
 
+// The length of a record's sequence, and the number of its N blocks and of its mask blocks.
+pub enum Info {
+    Is {
+        len: Chars,
+        blocks: usize,
+        masks: usize,
+    },
+    Refused(Refusal),
+}
+
 // The length of both stores, and the number of mask blocks.
 pub enum Read {
     Is { len: Chars, masks: usize },

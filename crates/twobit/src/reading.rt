@@ -1,6 +1,7 @@
 // Reading a .2bit file of either byte order.
 use crate::answers::Cursor;
 use crate::answers::Entry;
+use crate::answers::Info;
 use crate::answers::Read;
 use crate::answers::Sized;
 use crate::inner::HEADER;
@@ -13,13 +14,15 @@ use crate::inner::files::header_of;
 use crate::inner::filling::Ready;
 use crate::inner::filling::fill_flags;
 use crate::inner::filling::record_ready;
+use crate::inner::records::Parts;
+use crate::inner::records::record_at;
 use codes::refusals::Refusal;
 use codes::units::Chars;
 use dna::inner::reading::read_dna;
 ghost use mathlib.Core.Path.{_≡_};
-ghost use Rattle.twobit.specs.Answers.{sizedSays, cursorSays, entrySays, readSays};
+ghost use Rattle.twobit.specs.Answers.{sizedSays, cursorSays, entrySays, infoSays, readSays};
 ghost use Rattle.twobit.specs.Files.{offsetSize};
-ghost use Rattle.twobit.specs.Reading.{checkAnswer, firstAnswer, entryAnswer, recordAnswer, basesAfter, flagsAfter};
+ghost use Rattle.twobit.specs.Reading.{checkAnswer, firstAnswer, entryAnswer, infoAnswer, recordAnswer, basesAfter, flagsAfter};
 
 // Judges a whole file, and counts its sequences.
 pub fn check(file: &[u8]) -> Sized
@@ -75,6 +78,28 @@ pub fn entry(file: &[u8], number: usize, at: usize) -> Entry
                 }
             }
         }
+    }
+}
+
+// How long the sequence of the record at byte `offset` is, and how many N blocks and mask blocks it has.
+pub fn record_info(file: &[u8], offset: usize) -> Info
+    ensures { λ r. ⌜ infoSays r ≡ infoAnswer (now (file .entry)) offset ⌝ }
+{
+    match header_of(file) {
+        Header::Bad => Info::Refused(Refusal::BadForm),
+        Header::Is { big, .. } => match record_at(file, big, offset) {
+            Parts::Bad => Info::Refused(Refusal::BadForm),
+            Parts::Is {
+                size,
+                blocks,
+                masks,
+                ..
+            } => Info::Is {
+                len: Chars::new(size),
+                blocks,
+                masks,
+            },
+        },
     }
 }
 

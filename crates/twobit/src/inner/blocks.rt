@@ -64,26 +64,32 @@ fn clear_of(file: &[u8], big: bool, p: usize, n: usize, i: usize) -> bool
     clear
 }
 
-// Whether no two of the n blocks share a position. From the last to the first: a block that ends before all later ones begin needs no
-// other look, so that rising blocks take one pass.
+// Whether no two of the n blocks share a position. From the last to the first: a block that ends before all later ones begin, or begins
+// where all later ones have ended, needs no other look, so that rising blocks take one pass, and falling ones too.
 pub(crate) fn all_apart(file: &[u8], big: bool, p: usize, n: usize) -> bool
     requires { ⌜ (n ≡ blockCount big (now file) p) × (blocksEnd big (now file) p ≤ length (now file)) ⌝ }
     ensures { λ r. ⌜ r ≡ apart (blocksAt big (now (file .entry)) p) ⌝ }
 {
     let mut right = true;
     let mut low: usize = 0x2_0000_0000;
+    let mut high: usize = 0;
     let mut i = n;
     while 0 < i {
         i -= 1;
         let block = block_at(file, big, p, n, i);
         if block.start < block.end {
             if low < block.end {
-                if right {
-                    right = clear_of(file, big, p, n, i);
+                if block.start < high {
+                    if right {
+                        right = clear_of(file, big, p, n, i);
+                    }
                 }
             }
             if block.start < low {
                 low = block.start;
+            }
+            if high < block.end {
+                high = block.end;
             }
         }
     }

@@ -9,8 +9,8 @@ ghost use mathlib.Core.Option.{some, none};
 ghost use mathlib.Core.Path.{_≡_};
 ghost use Prim.Native.Nat.{_≤_};
 ghost use Rattle.codes.specs.Codes.{pick};
-ghost use Rattle.twobit.specs.Inner.{headerSays, indexSays, entryFound, behindSays, entrySound};
-ghost use Rattle.twobit.specs.Reading.{goodHeader, isBig, sequences, areEntries};
+ghost use Rattle.twobit.specs.Inner.{headerSays, indexSays, entryFound, KnownSound, behindSays, entrySound};
+ghost use Rattle.twobit.specs.Reading.{goodHeader, isBig, sequences, isRecord, areEntries};
 
 // The byte order, and how many sequences.
 pub enum Header {
@@ -28,9 +28,9 @@ pub enum Indexed {
     Cut,
 }
 
-// The byte behind a sound entry.
+// The byte behind a sound entry, and the offset of its record.
 pub enum Behind {
-    Is(usize),
+    Is { end: usize, offset: usize },
     Bad,
 }
 
@@ -78,34 +78,54 @@ pub(crate) fn entry_at(file: &[u8], big: bool, k: usize, at: usize) -> Indexed
     }
 }
 
-// The byte behind the entry at byte `at`, where the entry and its record are sound.
-fn sound_entry(file: &[u8], big: bool, k: usize, at: usize) -> Behind
-    requires { ⌜ k ≤ 8 ⌝ }
+// Whether a sound record stands at byte r. The one at `known`, if that lies in the file, is known to be sound and is not looked at again.
+fn sound_record(file: &[u8], big: bool, r: usize, known: usize) -> bool
+    requires { ⌜ KnownSound big (now file) known ⌝ }
+    ensures { λ a. ⌜ a ≡ isRecord big (now (file .entry)) r ⌝ }
+{
+    if r == known {
+        if r < file.len() {
+            return true;
+        }
+    }
+    match record_at(file, big, r) {
+        Parts::Bad => false,
+        Parts::Is { .. } => true,
+    }
+}
+
+// The byte behind the entry at byte `at` and the offset of its record, where both are sound.
+fn sound_entry(file: &[u8], big: bool, k: usize, at: usize, known: usize) -> Behind
+    requires { ⌜ (k ≤ 8) × KnownSound big (now file) known ⌝ }
     ensures { λ r. ⌜ behindSays r ≡ entrySound big k (now (file .entry)) at ⌝ }
 {
     match entry_at(file, big, k, at) {
         Indexed::Cut => Behind::Bad,
-        Indexed::Is { offset, end, .. } => match record_at(file, big, offset) {
-            Parts::Bad => Behind::Bad,
-            Parts::Is { .. } => Behind::Is(end),
-        },
+        Indexed::Is { offset, end, .. } => {
+            if !sound_record(file, big, offset, known) {
+                return Behind::Bad;
+            }
+            Behind::Is { end, offset }
+        }
     }
 }
 
-// Whether n entries stand from byte `from` on, each with a sound record.
+// Whether n entries stand from byte `from` on, each with a sound record. A record that the entry before has too is looked at once.
 pub(crate) fn are_entries(file: &[u8], big: bool, k: usize, n: usize, from: usize) -> bool
     requires { ⌜ k ≤ 8 ⌝ }
     ensures { λ r. ⌜ r ≡ areEntries big (now (file .entry)) k n from ⌝ }
 {
     let mut at = from;
     let mut left = n;
+    let mut known = file.len();
     while 0 < left {
-        match sound_entry(file, big, k, at) {
+        match sound_entry(file, big, k, at, known) {
             Behind::Bad => {
                 return false;
             }
-            Behind::Is(end) => {
+            Behind::Is { end, offset } => {
                 at = end;
+                known = offset;
                 left -= 1;
             }
         }

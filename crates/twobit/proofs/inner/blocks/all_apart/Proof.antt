@@ -1,4 +1,4 @@
--- The invariant: the flag tells of the blocks from i on, and those of them that have a position start at `low` or behind. Assumes nothing.
+-- The invariant: the flag tells of the blocks from i on, and those of them that have a position lie between `low` and `high`. Assumes nothing.
 use mathlib.Core.Logic.{⊎-elim}
 use mathlib.Core.Path.{_≡_, sym, ap, _∙_}
 use Prim.Native.Nat.{ℕ, _-_, _≤_}
@@ -6,23 +6,23 @@ use native.Mathlib.Omega.{arith}
 use Rattle.fields.specs.Runs.{Run}
 use Rattle.twobit.specs.Blocks.{blocksFrom, apart}
 use Rattle.twobit.specs.Reading.{blockAt}
-use Rattle.twobit.proofs.BlockLaws.{blocks-all, From, From-none, From-next, apart-none, apart-clear, apart-fails, apart-first, clear-empty, clear-below}
+use Rattle.twobit.proofs.BlockLaws.{blocks-all, Between, Between-none, Between-next, apart-none, apart-clear, apart-fails, apart-first, clear-empty, clear-below, clear-above}
 use Rattle.twobit.proofs.inner.blocks.all_apart.Statement.{statement}
 use Rattle.twobit.proofs.inner.blocks.all_apart.Tie as tie
 
 abbrev Inv-loop : tie.InvT-loop
-Inv-loop file big p n right₀ low₀ i₀ right low i =
+Inv-loop file big p n right₀ low₀ high₀ i₀ right low high i =
     let bs = blocksFrom (blockAt big file p) i (n - i) in
-    (i ≤ n) × (right ≡ apart bs) × From low bs
+    (i ≤ n) × (right ≡ apart bs) × Between low high bs
 
 abbrev μ-loop : tie.MeasureT-loop
-μ-loop file big p n right₀ low₀ i₀ right low i = i
+μ-loop file big p n right₀ low₀ high₀ i₀ right low high i = i
 
 abbrev fileBlocks : tie.Start Inv-loop μ-loop → ℕ → Run
 fileBlocks s = blockAt (s .args .big) (s .args .file .now) (s .args .p)
 
 loop-holds : tie.Need-loop-holds Inv-loop μ-loop
-loop-holds c = let s = c .before in (omega arith, apart-none (fileBlocks s) (s .args .n), From-none 0x2_0000_0000 (fileBlocks s) (s .args .n))
+loop-holds c = let s = c .before in (omega arith, apart-none (fileBlocks s) (s .args .n), Between-none 0x2_0000_0000 0 (fileBlocks s) (s .args .n))
 
 sub-i : tie.Need-sub-i Inv-loop μ-loop
 sub-i c = omega arith
@@ -34,7 +34,7 @@ block-at-requires c κs =
 
 clear-of-requires : tie.Need-clear-of-requires Inv-loop μ-loop
 clear-of-requires c κs =
-    let l = c .before .before .before .before .before .before .before in
+    let l = c .before .before .before .before .before .before .before .before .before in
     let s = l .before .before in
     (s .pre .0, omega (arith, l .loop .inv .0, l .before), s .pre .1)
 
@@ -51,23 +51,38 @@ right-is c =
     let i = l .loop .i in
     let v = l .loop .inv in
     let t = b .before .loop-test .taken in
-    ⊎-elim (λ w. w .3 ∙ apart-first f i n t (v .0) (w .2 .result) (sym (w .1 .taken) ∙ v .1) (w .2 .ensures))
-    (⊎-elim (λ w. w .2 ∙ (w .1 .left ∙ apart-fails f i n t (v .0) (sym (w .1 .left) ∙ v .1)))
+    let bs = blocksFrom f i (n - i) in
+    ⊎-elim (λ w. w .5 ∙ apart-first f i n t (v .0) (w .4 .result) (sym (w .3 .taken) ∙ v .1) (w .4 .ensures))
+    (⊎-elim (λ w. w .4 ∙ (w .3 .left ∙ apart-fails f i n t (v .0) (sym (w .3 .left) ∙ v .1)))
+    (⊎-elim
+    (λ w. w .3 ∙ apart-clear f i n t (v .0) (l .loop .right)
+    (clear-above (f (i - 1)) (l .loop .low) (l .loop .high) bs (omega (arith, w .2 .left, b .block-at .ensures .0)) (v .2)) (v .1))
     (λ w. w .1 ∙ apart-clear f i n t (v .0) (l .loop .right)
-    (clear-below (f (i - 1)) (l .loop .low) (blocksFrom f i (n - i)) (omega (arith, w .0 .left, b .block-at .ensures .1)) (v .2)) (v .1))) (c .if2 .came)
+    (clear-below (f (i - 1)) (l .loop .low) (l .loop .high) bs (omega (arith, w .0 .left, b .block-at .ensures .1)) (v .2)) (v .1)))) (c .if2 .came)
+
+-- the block and its loop, and how the lower bound stands before the next turn
+abbrev block : tie.Joined5 Inv-loop μ-loop → tie.After-block-at Inv-loop μ-loop
+block c = c .before .before .before .before .before .before
+
+low-is : (c : tie.Joined5 Inv-loop μ-loop) → (c .if5 .low ≤ block c .before .before .loop .low) × (c .if5 .low ≤ block c .block-at .result .start)
+low-is c =
+    ⊎-elim (λ w. (omega (arith, w .0 .taken, w .1), omega (arith, w .1))) (λ w. (omega (arith, w .1), omega (arith, w .0 .left, w .1))) (c .if5 .came)
 
 loop-less : tie.Need-loop-less Inv-loop μ-loop
 loop-less c = omega arith
 
 loop-again : tie.Need-loop-again Inv-loop μ-loop
 loop-again c =
-    let b = c .before .before .before .before .before .before in
+    let d = c .before .before in
+    let b = block d in
     let l = b .before .before in
-    let s = l .before .before in (
+    let s = l .before .before in
+    let low = low-is d in (
       omega (arith, l .loop .inv .0),
-      right-is (c .before .before),
-      From-next (fileBlocks s) (l .loop .i) (s .args .n) (b .before .loop-test .taken) (l .loop .inv .0) (l .loop .low) (b .block-at .result .start) (omega (arith, c .if4 .taken))
-          (λ h. omega (arith, b .block-at .ensures .0)) (l .loop .inv .2),
+      right-is (d .before .before),
+      Between-next (fileBlocks s) (l .loop .i) (s .args .n) (b .before .loop-test .taken) (l .loop .inv .0) (l .loop .low) (l .loop .high) (d .if5 .low)
+          (b .block-at .result .end) (low .0) (omega (arith, c .if6 .taken))
+          (λ h. (omega (arith, low .1, b .block-at .ensures .0), omega (arith, b .block-at .ensures .1))) (l .loop .inv .2),
     )
 
 loop-less-2 : tie.Need-loop-less-2 Inv-loop μ-loop
@@ -75,13 +90,16 @@ loop-less-2 c = omega arith
 
 loop-again-2 : tie.Need-loop-again-2 Inv-loop μ-loop
 loop-again-2 c =
-    let b = c .before .before .before .before .before .before in
+    let d = c .before .before in
+    let b = block d in
     let l = b .before .before in
-    let s = l .before .before in (
+    let s = l .before .before in
+    let low = low-is d in (
       omega (arith, l .loop .inv .0),
-      right-is (c .before .before),
-      From-next (fileBlocks s) (l .loop .i) (s .args .n) (b .before .loop-test .taken) (l .loop .inv .0) (l .loop .low) (l .loop .low) (omega arith)
-          (λ h. omega (arith, c .if4 .left, b .block-at .ensures .0)) (l .loop .inv .2),
+      right-is (d .before .before),
+      Between-next (fileBlocks s) (l .loop .i) (s .args .n) (b .before .loop-test .taken) (l .loop .inv .0) (l .loop .low) (l .loop .high) (d .if5 .low)
+          (l .loop .high) (low .0) (omega arith)
+          (λ h. (omega (arith, low .1, b .block-at .ensures .0), omega (arith, c .if6 .left, b .block-at .ensures .1))) (l .loop .inv .2),
     )
 
 loop-less-3 : tie.Need-loop-less-3 Inv-loop μ-loop
@@ -100,7 +118,8 @@ loop-again-3 c =
     let e : f (i - 1) .size ≡ 0 = omega (arith, c .if1 .left, b .block-at .ensures .0, b .block-at .ensures .1) in (
       omega (arith, v .0),
       apart-clear f i n t (v .0) (l .loop .right) (clear-empty (f (i - 1)) (blocksFrom f i (n - i)) e) (v .1),
-      From-next f i n t (v .0) (l .loop .low) (l .loop .low) (omega arith) (λ h. omega (arith, e, h)) (v .2),
+      Between-next f i n t (v .0) (l .loop .low) (l .loop .high) (l .loop .low) (l .loop .high) (omega arith) (omega arith)
+          (λ h. let z : ⊥ = omega (arith, e, h) in absurd z) (v .2),
     )
 
 returns : tie.Need-returns Inv-loop μ-loop

@@ -1,8 +1,9 @@
 -- The entry, then its record. Assumes nothing.
 use mathlib.Core.Path.{sym, ap, _∙_}
-use Rattle.twobit.specs.Inner.{indexSays, partsSay}
-use Rattle.twobit.proofs.EntryLaws.{Noted, entry-some, sound-cut, sound-bad, sound-good}
 use borrow.Author.Needs.{needs}
+use borrow.Author.Tests.{not-true, not-false}
+use Rattle.twobit.specs.Inner.{indexSays}
+use Rattle.twobit.proofs.EntryLaws.{Noted, entry-some, sound-cut, sound-bad, sound-good}
 use Rattle.twobit.proofs.inner.files.sound_entry.Statement.{statement}
 use Rattle.twobit.proofs.inner.files.sound_entry.Tie as tie
 
@@ -27,33 +28,27 @@ noted c =
     let g = c .before .offset .given .0 in
     entry-some (a .big) (a .k) (a .file .now) (a .at) (g .0) (g .1 .0) (g .1 .1 .0) (sym (c .before .before .before .entry-at .ensures) ∙ ap indexSays (c .before .offset .given .1))
 
-record-at-requires : tie.Need-record-at-requires
-record-at-requires c κs = search needs
-
-enum-told-2 : tie.Need-enum-told-2
-enum-told-2 c = search needs
-
-enum-told-3 : tie.Need-enum-told-3
-enum-told-3 c = search needs
+sound-record-requires : tie.Need-sound-record-requires
+sound-record-requires c κs = start c .pre .1
 
 returns : tie.Need-returns
 returns c =
-    let a = c .before .before .before .before .args in
-    sound-cut (a .big) (a .k) (a .file .now) (a .at) (sym (c .before .before .entry-at .ensures) ∙ ap indexSays (c .enum-told .given .1))
+    let d = c .before .before in
+    let a = start d .args in
+    let g = d .before .offset .given .0 in
+    sound-bad (a .big) (a .k) (a .file .now) (a .at) (g .0) (g .1 .0) (g .1 .1 .0) (noted d) (sym (c .before .sound-record .ensures) ∙ not-true _ (c .if1 .taken))
 
 returns-2 : tie.Need-returns-2
 returns-2 c =
-    let d = c .before .before .before in
-    let a = start d .args in
-    let g = d .before .offset .given .0 in
-    sound-bad (a .big) (a .k) (a .file .now) (a .at) (g .0) (g .1 .0) (g .1 .1 .0) (noted d) (sym (c .before .before .record-at .ensures) ∙ ap partsSay (c .enum-told2 .given .1))
+    let a = c .before .before .before .before .args in
+    sound-cut (a .big) (a .k) (a .file .now) (a .at) (sym (c .before .before .entry-at .ensures) ∙ ap indexSays (c .enum-told .given .1))
 
 returns-3 : tie.Need-returns-3
 returns-3 c =
-    let d = c .before .before .before in
+    let d = c .before .before in
     let a = start d .args in
     let g = d .before .offset .given .0 in
-    sound-good (a .big) (a .k) (a .file .now) (a .at) (g .0) (g .1 .0) (g .1 .1 .0) (noted d) _ (sym (c .before .before .record-at .ensures) ∙ ap partsSay (c .enum-told3 .given .1))
+    sound-good (a .big) (a .k) (a .file .now) (a .at) (g .0) (g .1 .0) (g .1 .1 .0) (noted d) (sym (c .before .sound-record .ensures) ∙ not-false _ (c .if1 .left))
 
 pub sound-entry-spec : {M : Type 1} → statement M
 sound-entry-spec =
@@ -62,9 +57,7 @@ sound-entry-spec =
     entry-at-requires
     enum-told
     enum-known-offset
-    record-at-requires
-    enum-told-2
-    enum-told-3
+    sound-record-requires
     returns
     returns-2
     returns-3)
