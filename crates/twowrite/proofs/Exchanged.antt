@@ -1,18 +1,21 @@
--- Whatever was started, filled and finished, every call done, is a file that is accepted and reads back.
+-- Whatever was started, filled and finished, every call done, is a file that is accepted and reads back: its names, and its flags and bases in two
+-- lent buffers, by the answers of the calls that read.
 -- Assumes nothing.
 use mathlib.Core.Bool.{true, false}
 use mathlib.Core.List.{List, [], _∷_, map}
-use mathlib.Core.Path.{_≡_, sym, ap, ap₂, _∙_, subst}
+use mathlib.Core.Path.{_≡_, refl, sym, ap, ap₂, _∙_, subst}
 use Prim.Native.Nat.{ℕ, _+_, _*_, _^_, _<_}
 use native.Mathlib.Omega.{arith}
 use borrow.Author.Tests.{ltb-false, leb-false}
-use lib.ListN.{length}
+use lib.ListN.{length, take, drop}
+use lib.Seq.{take-at}
 use Rattle.codes.proofs.CharLaws.{length-chars, chars-fit}
 use Rattle.codes.proofs.Viewed.{view-passed}
 use Rattle.codes.proofs.WordLaws.{Below}
 use Rattle.codes.proofs.TestLaws.{first-none}
 use Rattle.twobit.specs.Files.{Sequence, fileOf, offsetSize, headerSize, indexEnd, namesSize}
 use Rattle.twobit.specs.Reading.{isTwoBit, isBig, sequences}
+use Rattle.twobit.proofs.ReadCalls.{AllRead, all-read}
 use Rattle.twobit.proofs.ReadBack.{Fit, AllFit, Near, Walks, accepted, counted, ordered-as, walked}
 use Rattle.twowrite.specs.Writing.{startAnswer, startAfter, startTests, startOutcome, finishAnswer}
 use Rattle.twowrite.specs.declared.answers.Writing.{Writing}
@@ -68,6 +71,9 @@ pub record Exchanged (n m : ℕ) (out : List ℕ) (ss : List Sequence) (t : Writ
   pub little : isBig (fileOf false 0 offsetSize ss) ≡ false
   pub count : sequences (fileOf false 0 offsetSize ss) ≡ length ss
   pub walk : Walks false (fileOf false 0 offsetSize ss) offsetSize headerSize ss
+  -- as many bytes as finish counts are the file, and the calls answer of it what was written
+  pub front : take (finishAnswer t .values) after ≡ fileOf false 0 offsetSize ss
+  pub read : AllRead (fileOf false 0 offsetSize ss) ss
 
 pub exchanged : (n m : ℕ) (out : List ℕ) (gs : List Given) (t : Writing) (after : List ℕ) → Named gs → startAnswer 0 offsetSize n m out .no ≡ 0
     → AllAdded offsetSize (startAnswer 0 offsetSize n m out .values) (startAfter 0 offsetSize n m out) gs t after → finishAnswer t .no ≡ 0
@@ -79,6 +85,10 @@ exchanged n m out gs t after names a b c =
       little = ordered-as false 0 offsetSize ss;
       count = counted false 0 offsetSize ss few;
       walk = walked false 0 offsetSize ss fit near;
+      front =
+          ap₂ take (w .size) (w .bytes)
+          ∙ take-at (fileOf false 0 offsetSize ss) (drop (length (fileOf false 0 offsetSize ss)) out) (length (fileOf false 0 offsetSize ss)) refl;
+      read = all-read false ss few fit near;
     }
   where
     ss : List Sequence

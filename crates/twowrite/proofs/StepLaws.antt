@@ -2,7 +2,7 @@
 -- Assumes nothing.
 use mathlib.Core.Bool.{Bool, true, false, _&&_, not}
 use mathlib.Core.List.{List, [], _∷_}
-use mathlib.Core.Path.{_≡_, refl, sym, ap, _∙_, subst}
+use mathlib.Core.Path.{_≡_, refl, sym, ap, ap₂, _∙_, subst}
 use Prim.Native.Nat.{ℕ, zero, suc, _+_, _*_, _/_, _^_, _≤_, _<_}
 use native.Mathlib.Nat.{div-eq-of-lt, le-div-iff-mul-le, one-mul, le-of-eq}
 use native.Mathlib.Omega.{arith}
@@ -20,7 +20,7 @@ use Rattle.codes.proofs.RefusalLaws.{answer-outcome, answer-values}
 use Rattle.codes.proofs.WidthLaws.{below-or}
 use Rattle.codes.proofs.TestLaws.{Stops, refusedAt, first-at, answer-at, None, first-past, first-none}
 use Rattle.twobit.specs.Answers.{sizedSays}
-use Rattle.twobit.specs.Files.{entrySize, recordSize}
+use Rattle.twobit.specs.Files.{headerSize, entrySize, recordSize}
 use Rattle.twowrite.specs.Writing.{writing, addTests, addOutcome, added, addAnswer, badState, unfinished, finishAnswer}
 use Rattle.twobit.specs.declared.answers.Sized.{Sized}
 use Rattle.twobit.specs.declared.answers.Sized.the-variants as Sized
@@ -85,29 +85,45 @@ module _ (k entry stop place left n : ℕ) where
       not-leb place stop
       ∙ fails-last (ltb 0 left) (leb (entry + entrySize k n) stop) (leb stop place) (lt-ltb 0 left h) (le-leb (entry + entrySize k n) stop l)
 
+-- one of two conditions fails
+and-no : (a b : Bool) → b ≡ false → (a && b) ≡ false
+and-no true b e = e
+and-no false b e = refl
+
 -- a file that is not finished, and one that is
 module _ (s : Writing) where
+  -- the index ends behind the header, and before the next record
+  abbrev between : Bool
+  between = leb headerSize (s .stop) && leb (s .stop) (s .place)
+
   refused : true ≡ unfinished s .0 → answer (Refused BadRange) 0 0 ≡ finishAnswer s
   unfolding finishAnswer
   refused e = answer-at 0 (unfinished s ∷ []) BadRange (s .place) 0 refl (sym e)
 
   pub finish-left : (s .left ≡ 0 → ⊥) → answer (Refused BadRange) 0 0 ≡ finishAnswer s
-  finish-left h = refused (fails-1 (eqb (s .left) 0) (eqb (s .entry) (s .stop)) (leb (s .stop) (s .place)) (ne-eqb (s .left) 0 h))
+  finish-left h = refused (fails-1 (eqb (s .left) 0) (eqb (s .entry) (s .stop)) between (ne-eqb (s .left) 0 h))
 
   pub finish-entry : (s .entry ≡ s .stop → ⊥) → answer (Refused BadRange) 0 0 ≡ finishAnswer s
-  finish-entry h = refused (fails-2 (eqb (s .left) 0) (eqb (s .entry) (s .stop)) (leb (s .stop) (s .place)) (ne-eqb (s .entry) (s .stop) h))
+  finish-entry h = refused (fails-2 (eqb (s .left) 0) (eqb (s .entry) (s .stop)) between (ne-eqb (s .entry) (s .stop) h))
+
+  pub finish-header : s .stop < headerSize → answer (Refused BadRange) 0 0 ≡ finishAnswer s
+  finish-header h =
+      refused
+      (fails-3 (eqb (s .left) 0) (eqb (s .entry) (s .stop)) between (ap (λ (b : Bool). b && leb (s .stop) (s .place)) (lt-leb headerSize (s .stop) h)))
 
   pub finish-place : s .place < s .stop → answer (Refused BadRange) 0 0 ≡ finishAnswer s
-  finish-place h = refused (fails-3 (eqb (s .left) 0) (eqb (s .entry) (s .stop)) (leb (s .stop) (s .place)) (lt-leb (s .stop) (s .place) h))
+  finish-place h =
+      refused
+      (fails-3 (eqb (s .left) 0) (eqb (s .entry) (s .stop)) between (and-no (leb headerSize (s .stop)) (leb (s .stop) (s .place)) (lt-leb (s .stop) (s .place) h)))
 
-  pub finish-done : s .left ≡ 0 → s .entry ≡ s .stop → s .stop ≤ s .place → answer Done (s .place) 0 ≡ finishAnswer s
+  pub finish-done : s .left ≡ 0 → s .entry ≡ s .stop → headerSize ≤ s .stop → s .stop ≤ s .place → answer Done (s .place) 0 ≡ finishAnswer s
   unfolding finishAnswer
-  finish-done l e h =
+  finish-done l e k h =
       answer-done (first (unfinished s ∷ [])) (s .place) (s .place) 0
       (sym
       (first-at 1 (unfinished s ∷ []) (
-        sym (fails-last (eqb (s .left) 0) (eqb (s .entry) (s .stop)) (leb (s .stop) (s .place)) (eq-eqb (s .left) 0 l) (eq-eqb (s .entry) (s .stop) e))
-            ∙ ap not (le-leb (s .stop) (s .place) h),
+        sym (fails-last (eqb (s .left) 0) (eqb (s .entry) (s .stop)) between (eq-eqb (s .left) 0 l) (eq-eqb (s .entry) (s .stop) e))
+            ∙ ap₂ (λ (a b : Bool). not (a && b)) (le-leb headerSize (s .stop) k) (le-leb (s .stop) (s .place) h),
         tt,
       )))
       refl

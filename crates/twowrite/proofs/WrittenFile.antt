@@ -1,7 +1,7 @@
 -- A file that is started, filled with its sequences and finished, every call done: the front of the output is exactly that file, and the rest stays.
 -- The bytes are followed in parts: what stands before the next entry, the gap up to the index's end, the records, and what was there before.
 -- Assumes nothing.
-use mathlib.Core.Bool.{false}
+use mathlib.Core.Bool.{false, _&&_}
 use mathlib.Core.List.{List, [], _∷_, _++_, map, append-assoc, append-nil}
 use mathlib.Core.Path.{_≡_, refl, sym, ap, ap₂, _∙_}
 use Prim.Native.Nat.{ℕ, suc, _+_, _-_, _*_, _≤_}
@@ -345,7 +345,7 @@ written-file version k n m out gs t after a b c = record { bytes = bytes-are; si
 
     tests : (t .left ≡ 0) × (t .entry ≡ t .stop)
     tests =
-        let h = all-hold (eqb (t .left) 0) (eqb (t .entry) (t .stop)) (leb (t .stop) (t .place)) (first-none (unfinished t ∷ []) finished .0) in
+        let h = all-hold (eqb (t .left) 0) (eqb (t .entry) (t .stop)) (leb headerSize (t .stop) && leb (t .stop) (t .place)) (first-none (unfinished t ∷ []) finished .0) in
         (eqb-true (t .left) 0 (h .0), eqb-true (t .entry) (t .stop) (h .1))
 
     count-is : n ≡ length ss

@@ -89,8 +89,9 @@ module _ (k : ℕ) (s : Writing) (name : List ℕ) (xs : List ℕ) (ao al : ℕ)
 
 -- ---- finish: all have been added, and the index is full
 
+-- sequences are left, the index is not full, it ends before the header does, or it does not end before the next record
 abbrev pub unfinished : Writing → Test
-unfinished s = (not (eqb (s .left) 0 && (eqb (s .entry) (s .stop) && leb (s .stop) (s .place))), BadRange)
+unfinished s = (not (eqb (s .left) 0 && (eqb (s .entry) (s .stop) && (leb headerSize (s .stop) && leb (s .stop) (s .place)))), BadRange)
 
 -- the file's size
 unfoldable pub finishAnswer : Writing → Answer ℕ

@@ -148,6 +148,9 @@ pub fn finish(state: Writing) -> Sized
     if state.entry != state.stop {
         return Sized::Refused(Refusal::BadRange);
     }
+    if state.stop < HEADER {
+        return Sized::Refused(Refusal::BadRange);
+    }
     if state.place < state.stop {
         return Sized::Refused(Refusal::BadRange);
     }

@@ -9,8 +9,9 @@ use Rattle.codes.specs.declared.refusals.Outcome.{Outcome}
 use Rattle.codes.specs.declared.refusals.Outcome.the-variants.{Done, Refused}
 use Rattle.codes.proofs.OutcomeLaws.{answer-done, answer-refused, gives-done, gives-refused}
 use Rattle.codes.proofs.TestLaws.{first-none}
-use Rattle.twobit.specs.Files.{offsetSize, indexEnd}
-use Rattle.twowrite.specs.Writing.{startTests, startOutcome, startAnswer, startAfter}
+use Rattle.twobit.specs.Files.{headerSize, offsetSize, indexEnd}
+use Rattle.twowrite.specs.Writing.{writing, startTests, startOutcome, startAnswer, startAfter}
+use Rattle.twowrite.specs.declared.answers.Writing.{Writing}
 use Rattle.twowrite.proofs.writing.start.Statement.{statement}
 use Rattle.twowrite.proofs.writing.start.Tie as tie
 
@@ -78,7 +79,10 @@ returns-2 c =
     let w = c .before .before in
     let d = w .before .before in
     let o = outcome (s d) in
-    (answer-done o _ _ _ (done d) refl, w .write-header .ensures ∙ gives-done o _ _ (done d))
+    let a = s d .args in
+    let stop = indexEnd offsetSize (a .count) (a .names) in
+    let begun : Writing = writing headerSize stop stop (a .count) in
+    (answer-done o begun begun (writing 0 0 0 0) (done d) refl, w .write-header .ensures ∙ gives-done o _ _ (done d))
 
 pub start-spec : {M : Type 1} → statement M
 start-spec =
