@@ -26,3 +26,4 @@ pub mod Collected
 pub mod LineEnds
 pub mod Rna
 pub mod Decided
+pub mod Called

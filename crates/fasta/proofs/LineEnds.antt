@@ -1,37 +1,53 @@
--- A text whose lines end in LF and the same text with CR LF have one report.
+-- Lines that end in LF and lines that end in CR LF count alike: a text in which any choice of its LFs have gained a CR, each an LF that no CR stands
+-- before, has the report that it had.
 -- Assumes nothing.
 use mathlib.Core.Bool.{Bool, true, false}
 use mathlib.Core.List.{List, [], _∷_, _++_, map}
 use mathlib.Core.Path.{_≡_, refl, sym, ap, _∙_}
-use Prim.Native.Nat.{ℕ, suc}
+use Prim.Native.Nat.{ℕ}
 use native.Mathlib.Omega.{arith}
+use borrow.Author.Tests.{eqb-true}
 use lib.Dec.{eqb}
-use Rattle.codes.specs.Codes.{pick}
 use Rattle.fasta.specs.Report.{heading, longer, lines, content, table, report}
 use Rattle.fasta.proofs.ContentLaws.{content-after}
-use Rattle.fasta.proofs.RestLaws.{Without}
 
--- each LF of a text, turned into CR LF
-unfoldable pub withReturns : List ℕ → List ℕ
-withReturns [] = []
-withReturns (b ∷ bs) = pick (eqb b 10) (13 ∷ 10 ∷ withReturns bs) (b ∷ withReturns bs)
+-- the second text is the first, in which some LFs that no CR stands before have gained one; the number is the byte before them
+pub data Gained : ℕ → List ℕ → List ℕ → Type 0 where
+  end : {a : ℕ} → Gained a [] []
+  kept : {a b : ℕ} {s t : List ℕ} → Gained b s t → Gained a (b ∷ s) (b ∷ t)
+  gained : {a : ℕ} {s t : List ℕ} → (a ≡ 13 → ⊥) → Gained 10 s t → Gained a (10 ∷ s) (13 ∷ 10 ∷ t)
 
-content-longer : (b : ℕ) → (b ≡ 13 → ⊥) → (L : List (List ℕ)) → map content (longer b L) ≡ longer b (map content L)
+-- what two such texts share: the contents of their lines, and with the byte before them too
+record Shared (a : ℕ) (s t : List ℕ) : Type 0 where
+  after : map content (longer a (lines t)) ≡ map content (longer a (lines s))
+  alone : (a ≡ 13 → ⊥) → map content (lines t) ≡ map content (lines s)
+
+content-longer : (a b : ℕ) (L : List (List ℕ)) → map content (longer a (longer b L)) ≡ longer a (map content (longer b L))
 unfolding content
-content-longer b h [] = ap (λ (l : List ℕ). l ∷ []) (content-after b [] h)
-content-longer b h (l ∷ L) = ap (λ (k : List ℕ). k ∷ map content L) (content-after b l h)
+content-longer a b [] = refl
+content-longer a b (l ∷ L) = refl
 
-same-content : (bs : List ℕ) → Without 13 bs → map content (lines (withReturns bs)) ≡ map content (lines bs)
-unfolding withReturns lines content
-same-content [] h = refl
-same-content (b ∷ bs) h =
-    cases (eqb b 10) refl (same-content bs (λ k l. h (suc k) (omega arith)))
+shared-kept : {a b : ℕ} {s t : List ℕ} → Shared b s t → Shared a (b ∷ s) (b ∷ t)
+unfolding lines content
+shared-kept {a} {b} {s} {t} h =
+    cases (eqb b 10) refl
   where
-    cases : (t : Bool) → eqb b 10 ≡ t → map content (lines (withReturns bs)) ≡ map content (lines bs)
-        → map content (lines (pick t (13 ∷ 10 ∷ withReturns bs) (b ∷ withReturns bs))) ≡ map content (pick t ([] ∷ lines bs) (longer b (lines bs)))
-    cases true f e = ap (λ (L : List (List ℕ)). [] ∷ L) e
-    cases false f e = rw f (content-longer b (h 0 (omega arith)) (lines (withReturns bs)) ∙ ap (longer b) e ∙ sym (content-longer b (h 0 (omega arith)) (lines bs)))
+    cases : (x : Bool) → eqb b 10 ≡ x → Shared a (b ∷ s) (b ∷ t)
+    cases true e =
+        let f : map content (lines t) ≡ map content (lines s) = h .alone (λ z. omega (arith, eqb-true b 10 e)) in
+        record { after = rw e (ap (λ (L : List (List ℕ)). content (a ∷ []) ∷ L) f); alone = λ z. rw e (ap (λ (L : List (List ℕ)). [] ∷ L) f) }
+    cases false e =
+        record { after = rw e (content-longer a b (lines t) ∙ ap (longer a) (h .after) ∙ sym (content-longer a b (lines s))); alone = λ z. rw e (h .after) }
 
-pub line-ends : (input : List ℕ) → Without 13 input → report (withReturns input) ≡ report input
+shared : {a : ℕ} {s t : List ℕ} → Gained a s t → Shared a s t
+unfolding lines content
+shared end = record { after = refl; alone = λ h. refl }
+shared (kept g) = shared-kept (shared g)
+shared {a} (gained {s} {t} h g) =
+    let e : map content (lines t) ≡ map content (lines s) = shared g .alone (λ z. omega arith) in
+    record { after = ap (λ (L : List (List ℕ)). (a ∷ []) ∷ L) e ∙ ap (λ (l : List ℕ). l ∷ map content (lines s)) (sym (content-after a [] h)); alone = λ z. ap (λ (L : List (List ℕ)). [] ∷ L) e }
+
+-- a text begins as a line does
+pub line-ends : {s t : List ℕ} → Gained 10 s t → report t ≡ report s
 unfolding report
-line-ends input h = ap (λ (L : List (List ℕ)). heading ++ table L) (same-content input h)
+line-ends g = ap (λ (L : List (List ℕ)). heading ++ table L) (shared g .alone (λ z. omega arith))

@@ -17,18 +17,27 @@ use Rattle.codes.proofs.Net.{rep}
 use Rattle.codes.proofs.WidthLaws.{below-or}
 use Rattle.codes.proofs.WordLaws.{Below, length-charsOf}
 use Rattle.fields.proofs.LoadLaws.{loaded-char}
-use Rattle.runs.proofs.BytewiseLaws.{each-self, each-rep, each-and, each-or, each-xor, each-add, each-as}
+use Rattle.runs.proofs.BytewiseLaws.{Small, each-self, each-rep, each-word, each-and, each-or, each-xor, each-add, each-as}
 use Rattle.fasta.specs.Steps.{lineEnd, feedMark}
 use Rattle.fasta.proofs.LineLaws.{line-end-is, line-end}
 
--- what the code makes is made byte by byte, and that this is the mark is one computed test of all bytes
-pub marks-made : (x : ℕ) → x < 2 ^ 64
-    → bitXor (bitAnd (bitOr (bitAnd (bitXor x (rep 8 10 8)) (rep 8 127 8) + rep 8 127 8) (bitXor x (rep 8 10 8))) (rep 8 128 8)) (rep 8 128 8) ≡ word 8 (map feedMark (charsOf 8 8 x))
-unfolding tab
-marks-made x small =
-    let other = each-xor (each-self small) (each-rep 10 (lit< tt)) in
-    let carried = each-add (each-and other (each-rep 127 (lit< tt))) (each-rep 127 (lit< tt)) refl in
-    each-as (each-xor (each-and (each-or carried other) (each-rep 128 (lit< tt))) (each-rep 128 (lit< tt))) feedMark refl
+-- what the code makes of a byte b, with a word m of the byte that is looked for
+abbrev differs : ℕ → ℕ → ℕ
+differs m b = bitXor b (m % 2 ^ 8)
+
+abbrev carried : ℕ → ℕ → ℕ
+carried m b = bitAnd (differs m b) 127 + 127
+
+abbrev marked : ℕ → ℕ → ℕ
+marked m b = bitXor (bitAnd (bitOr (carried m b) (differs m b)) 128) 128
+
+-- what it makes of eight is made byte by byte; that m has eight equal bytes, that no sum leaves its byte and that this is the mark are computed tests
+pub marks-made : (x m : ℕ) → x < 2 ^ 64 → m ≡ rep 8 (m % 2 ^ 8) 8 → Small (carried m) → tab 256 (marked m) ≡ tab 256 feedMark
+    → bitXor (bitAnd (bitOr (bitAnd (bitXor x m) (rep 8 127 8) + rep 8 127 8) (bitXor x m)) (rep 8 128 8)) (rep 8 128 8) ≡ word 8 (map feedMark (charsOf 8 8 x))
+marks-made x m fits alike small test =
+    let other = each-xor (each-self fits) (each-word m alike) in
+    let sums = each-add (each-and other (each-rep 127 (lit< tt))) (each-rep 127 (lit< tt)) small in
+    each-as (each-xor (each-and (each-or sums other) (each-rep 128 (lit< tt))) (each-rep 128 (lit< tt))) feedMark test
 
 -- the zeros below a number that is shifted up by j
 zeros-shifted : (j k n : ℕ) → trailingZeros (j + k) (n * 2 ^ j) ≡ j + trailingZeros k n

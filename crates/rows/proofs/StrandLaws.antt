@@ -1,7 +1,7 @@
 -- Bases against their reverse complement: both views are right, and the order that comparing them answers is theirs.
 -- Assumes nothing.
 use mathlib.Core.List.{List, _++_, map}
-use mathlib.Core.Path.{_≡_, sym, ap, ap₂, _∙_}
+use mathlib.Core.Path.{_≡_, sym, ap, ap₂, _∙_, subst}
 use Prim.Native.Nat.{ℕ, _+_, _*_, _/_, _%_, _^_, _≤_}
 use native.Mathlib.Nat.{div-lt-iff-lt-mul}
 use native.Mathlib.Omega.{arith}
@@ -17,7 +17,7 @@ use Rattle.codes.specs.declared.refusals.Refusal.{Refusal}
 use Rattle.codes.specs.declared.units.Chars.{Chars}
 use Rattle.codes.proofs.CharLaws.{length-chars, chars-ext, chars-fit, length-pack, unpacked}
 use Rattle.codes.proofs.CodeLaws.{complement-fits}
-use Rattle.codes.proofs.WidthLaws.{width-2, per-pos}
+use Rattle.codes.proofs.WidthLaws.{width-2, per-pos, up-hi}
 use Rattle.codes.proofs.WordLaws.{Below, Below-reverse, Below-through}
 use Rattle.order.proofs.AnswerLaws.{comparedBy, compared-is}
 use Rattle.order.specs.Answers.{comparedSays}
@@ -35,31 +35,36 @@ chars-front {w} W xs ys n h =
     chars-ext w (xs ++ ys) xs 0 0 n
     (λ i l. ap (λ (b : ℕ). b / 2 ^ (w * ((0 + i) % per w)) % 2 ^ w) (List·getD-append xs ys 0 ((0 + i) / per w) (div-lt-iff-lt-mul (per-pos W) .1 (omega arith))))
 
+-- a view reversed, as a view again
+module _ {w : ℕ} (W : IsWidth w) (bs : List ℕ) (o n : ℕ) where
+  abbrev view : List ℕ
+  view = chars w bs o n
+
+  long : length (flipped w view) ≡ n
+  long = length-reverse (map (complement w) view) ∙ length-map view (complement w) ∙ length-chars w bs o n
+
+  fits : Below w (flipped w view)
+  fits = Below-reverse w (map (complement w) view) (Below-through w (complement w) (complement-fits w) view (chars-fit w bs o n))
+
+  pub packed-long : length (packed w (flipped w view)) ≡ up w n
+  unfolding packed
+  packed-long = length-pack w (up w (length (flipped w view))) (λ i. getD (flipped w view) i 0) ∙ ap (up w) long
+
+  pub flipped-chars : (other : List ℕ) → chars w (flippedOver w bs o n other) 0 n ≡ flipped w view
+  unfolding flippedOver
+  flipped-chars other =
+      chars-front W (packed w (flipped w view)) _ n (subst (λ (k : ℕ). n ≤ k * per w) (sym packed-long) (up-hi W n))
+      ∙ ap (chars w (packed w (flipped w view)) 0) (sym long)
+      ∙ unpacked W (flipped w view) fits
+
 module _ (bs other : List ℕ) (n : ℕ) (h : n ≤ 16384) (lb : length bs ≡ 4144) (lo : length other ≡ 4144) where
   abbrev cs : List ℕ
   cs = chars 2 bs 0 n
-
-  long : length (flipped 2 cs) ≡ n
-  long = length-reverse (map (complement 2) cs) ∙ length-map cs (complement 2) ∙ length-chars 2 bs 0 n
-
-  fits : Below 2 (flipped 2 cs)
-  fits = Below-reverse 2 (map (complement 2) cs) (Below-through 2 (complement 2) (complement-fits 2) cs (chars-fit 2 bs 0 n))
 
   flip-done : flipOutcome 2 bs 0 n other ≡ Done
   unfolding flipOutcome
   flip-done =
       rw (le-ltb (2 ^ 28) (length bs) (omega arith), le-ltb (length bs * 4) (0 + n + trailing * 4) (omega arith), le-ltb (length other) (up 2 n + trailing) (omega arith))
-
-  packed-long : length (packed 2 (flipped 2 cs)) ≡ up 2 n
-  unfolding packed
-  packed-long = length-pack 2 (up 2 (length (flipped 2 cs))) (λ i. getD (flipped 2 cs) i 0) ∙ ap (up 2) long
-
-  flipped-chars : chars 2 (flippedOver 2 bs 0 n other) 0 n ≡ flipped 2 cs
-  unfolding flippedOver
-  flipped-chars =
-      chars-front width-2 (packed 2 (flipped 2 cs)) _ n (omega (arith, packed-long))
-      ∙ ap (chars 2 (packed 2 (flipped 2 cs)) 0) (sym long)
-      ∙ unpacked width-2 (flipped 2 cs) fits
 
   pair-done : (other′ : List ℕ) → length other′ ≡ length other → pairOutcome 2 bs 0 n other′ 0 n ≡ Done
   pair-done other′ l =
@@ -83,7 +88,8 @@ module _ (bs other : List ℕ) (n : ℕ) (h : n ≤ 16384) (lb : length bs ≡ 4
         compared-is r Done (compare cs (flipped 2 cs)) (common cs (flipped 2 cs))
         (s
         ∙ ap₂ (λ (a b : ℕ). compared 2 bs a b other′ a b) ez em
-        ∙ ap₂ (λ (x : Outcome) (y : List ℕ). answer x (orderNumber (compare cs y), common cs y) (pos 0, 0)) (pair-done other′ l) (ap (λ (x : List ℕ). chars 2 x 0 n) flip-left ∙ flipped-chars))
+        ∙ ap₂ (λ (x : Outcome) (y : List ℕ). answer x (orderNumber (compare cs y), common cs y) (pos 0, 0)) (pair-done other′ l)
+        (ap (λ (x : List ℕ). chars 2 x 0 n) flip-left ∙ flipped-chars width-2 bs 0 n other))
 
 -- the order in an answer, and none in a refusal
 pub is-order : (r : Compared) (p o : Order) (k n : Chars) → r ≡ Compared.Is p k → r ≡ Compared.Is o n → p ≡ o
