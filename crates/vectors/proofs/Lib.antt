@@ -1,1 +1,4 @@
 pub mod Starred
+pub mod BothSides
+pub mod EntriesKept
+pub mod ThereAndBack
