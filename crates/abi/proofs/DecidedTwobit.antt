@@ -16,6 +16,8 @@ use Rattle.abi.proofs.files.tsiv_twobit_first.Kinds as first·kinds
 use Rattle.abi.proofs.files.tsiv_twobit_first.Reads as first·reads
 use Rattle.abi.proofs.files.tsiv_twobit_entry.Kinds as entry·kinds
 use Rattle.abi.proofs.files.tsiv_twobit_entry.Reads as entry·reads
+use Rattle.abi.proofs.files.tsiv_twobit_record_info.Kinds as record-info·kinds
+use Rattle.abi.proofs.files.tsiv_twobit_record_info.Reads as record-info·reads
 use Rattle.abi.proofs.files.tsiv_twobit_record.Kinds as record·kinds
 use Rattle.abi.proofs.files.tsiv_twobit_record.Reads as record·reads
 
@@ -55,6 +57,11 @@ pub entry-decided : Once 6 entry·kinds.ps entry·kinds.r entry·reads.Post
 entry-decided κs a x y v w p q =
     let answer = p ∙ sym q in
     λ i. (answer i .no, skip 1 (answer i .values .1 .1 .0, (answer i .values .1 .1 .1, (answer i .values .0 .0, (answer i .values .0 .1, (answer i .values .1 .0, tt))))))
+
+pub record-info-decided : Once 4 record-info·kinds.ps record-info·kinds.r record-info·reads.Post
+record-info-decided κs a x y v w p q =
+    let answer = p ∙ sym q in
+    λ i. (answer i .no, skip 2 (answer i .values .0, (answer i .values .1 .0, (answer i .values .1 .1, tt))))
 
 pub record-decided : Once 5 record·kinds.ps record·kinds.r record·reads.Post
 record-decided κs a x y v w p q =

@@ -3,3 +3,9 @@ pub mod DecidedFlags
 pub mod DecidedPlain
 pub mod DecidedCounts
 pub mod DecidedTwobit
+pub mod Returned
+pub mod RefusedBases
+pub mod RefusedFlags
+pub mod RefusedPlain
+pub mod RefusedCounts
+pub mod RefusedTwobit

@@ -3,7 +3,7 @@ use plain::inner::files;
 ghost use mathlib.Core.Path.{_≡_};
 ghost use Rattle.given.specs.Face.{said};
 ghost use Rattle.twobit.specs.Files.{offsetSize};
-ghost use Rattle.twobit.specs.Reading.{checkAnswer, firstAnswer, entryAnswer, recordAnswer, basesAfter, flagsAfter};
+ghost use Rattle.twobit.specs.Reading.{checkAnswer, firstAnswer, entryAnswer, infoAnswer, recordAnswer, basesAfter, flagsAfter};
 ghost use Rattle.twowrite.specs.Writing.{writing, startAnswer, startAfter, sizeAnswer, addAnswer, addAfter, finishAnswer};
 
 #[no_mangle]
@@ -113,6 +113,19 @@ pub extern "C" fn tsiv_twobit_entry(
         ≡ entryAnswer offsetSize (now (file .entry)) (now (number .entry)) (now (at .entry)) ⌝ }
 {
     files::entry(file, number, at, name, name_size, offset)
+}
+
+#[no_mangle]
+pub extern "C" fn tsiv_twobit_record_info(
+    file: &[u8],
+    offset: usize,
+    len: &mut usize,
+    blocks: &mut usize,
+    masks: &mut usize,
+) -> u32
+    ensures { λ r. ⌜ said r (now (len .exit), (now (blocks .exit), now (masks .exit))) ≡ infoAnswer (now (file .entry)) offset ⌝ }
+{
+    files::record_info(file, offset, len, blocks, masks)
 }
 
 #[no_mangle]

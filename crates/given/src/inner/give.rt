@@ -16,6 +16,7 @@ use streams::answers::Filled;
 use streams::answers::Shape;
 use twobit::answers::Cursor;
 use twobit::answers::Entry;
+use twobit::answers::Info;
 use twobit::answers::Read;
 use twobit::answers::Sized;
 use twowrite::answers::Stepped;
@@ -29,7 +30,7 @@ ghost use Rattle.order.specs.Answers.{comparedSays, foundSays};
 ghost use Rattle.order.specs.Order.{orderNumber};
 ghost use Rattle.stores.specs.Answers.{pushedSays, keptSays};
 ghost use Rattle.streams.specs.Answers.{shapeSays, filledSays};
-ghost use Rattle.twobit.specs.Answers.{sizedSays, cursorSays, entrySays, readSays};
+ghost use Rattle.twobit.specs.Answers.{sizedSays, cursorSays, entrySays, infoSays, readSays};
 ghost use Rattle.twowrite.specs.Answers.{steppedSays};
 ghost use Rattle.twowrite.specs.Writing.{writing};
 
@@ -326,6 +327,29 @@ pub fn entry(
             *offset = 0;
             *number = 0;
             *at = 0;
+            refusal_no(refusal)
+        }
+    }
+}
+
+pub fn info(answer: Info, len: &mut usize, blocks: &mut usize, masks: &mut usize) -> u32
+    ensures { λ r. ⌜ said r (now (len .exit), (now (blocks .exit), now (masks .exit))) ≡ infoSays answer ⌝ }
+{
+    match answer {
+        Info::Is {
+            len: n,
+            blocks: b,
+            masks: m,
+        } => {
+            *len = n.count();
+            *blocks = b;
+            *masks = m;
+            0
+        }
+        Info::Refused(refusal) => {
+            *len = 0;
+            *blocks = 0;
+            *masks = 0;
             refusal_no(refusal)
         }
     }

@@ -7,7 +7,7 @@ use twowrite::writing;
 ghost use mathlib.Core.Path.{_≡_};
 ghost use Rattle.given.specs.Face.{said};
 ghost use Rattle.twobit.specs.Files.{offsetSize};
-ghost use Rattle.twobit.specs.Reading.{checkAnswer, firstAnswer, entryAnswer, recordAnswer, basesAfter, flagsAfter};
+ghost use Rattle.twobit.specs.Reading.{checkAnswer, firstAnswer, entryAnswer, infoAnswer, recordAnswer, basesAfter, flagsAfter};
 ghost use Rattle.twowrite.specs.Writing.{writing, startAnswer, startAfter, sizeAnswer, addAnswer, addAfter, finishAnswer};
 
 pub fn start(
@@ -125,6 +125,18 @@ pub fn entry(
         number,
         at,
     )
+}
+
+pub fn record_info(
+    file: &[u8],
+    offset: usize,
+    len: &mut usize,
+    blocks: &mut usize,
+    masks: &mut usize,
+) -> u32
+    ensures { λ r. ⌜ said r (now (len .exit), (now (blocks .exit), now (masks .exit))) ≡ infoAnswer (now (file .entry)) offset ⌝ }
+{
+    give::info(reading::record_info(file, offset), len, blocks, masks)
 }
 
 pub fn record(
