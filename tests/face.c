@@ -233,6 +233,7 @@ static void nulls(void)
     HOLD(tsiv_twobit_check(NULL, 0, &a) == TSIV_BAD_FORM && a == 0);
     HOLD(tsiv_twobit_first(NULL, 0, &a, &b) == TSIV_BAD_FORM && (a | b) == 0);
     HOLD(tsiv_twobit_entry(NULL, 0, &a, &b, &c, &d, &len) == TSIV_BAD_FORM && (a | b | c | d | len) == 0);
+    HOLD(tsiv_twobit_record_info(NULL, 0, 0, &a, &b, &c) == TSIV_BAD_FORM && (a | b | c) == 0);
     HOLD(tsiv_twobit_record(NULL, 0, 0, NULL, 0, NULL, 0, &a, &b) == TSIV_BAD_FORM && (a | b) == 0);
 }
 
@@ -280,6 +281,7 @@ static void partial(void)
 static void counts(void)
 {
     uint8_t store[TSIV_FLAGS_ROOM(600)], letters[300];
+    const uint8_t one[TSIV_FLAGS_ROOM(1)] = {1};
     uint16_t entries[4] = {9, 9, 9, 9};
     size_t len = 7, start, end;
     uint64_t total;
@@ -288,7 +290,7 @@ static void counts(void)
     HOLD(tsiv_flags_push_ascii_counted(store, sizeof store, &len, entries, 4, letters, 300, &start, &end) == 0);
     HOLD(len == 300 && entries[0] == 256 && entries[1] == 44 && entries[2] == 9);
     /* one more flag, in a byte of its own: four gap flags before it, which are set */
-    HOLD(tsiv_flags_push_seq_counted(store, sizeof store, &len, entries, 4, store, 49, 0, 1, &start, &end) == 0);
+    HOLD(tsiv_flags_push_seq_counted(store, sizeof store, &len, entries, 4, one, sizeof one, 0, 1, &start, &end) == 0);
     HOLD(start == 304 && len == 305 && entries[1] == 49 && entries[0] == 256);
     HOLD(tsiv_flags_count(store, sizeof store, len, entries, 4, 0, 305, &total) == 0 && total == 305);
     HOLD(tsiv_flags_count(store, sizeof store, len, entries, 4, 1, 305, &total) == 0 && total == 304);
@@ -325,7 +327,7 @@ static void twobit(void)
                                     0,    0,    0,    0,    0, 0, 0, 0, 0,    0, 0, 0, 0, 0, 0, 0}; /* nothing */
     const uint8_t bases[50] = {0xB4, 3}, flags[49] = {16}, b = 'b';
     uint8_t out[70], x[51], y[50], long_name[256] = {0};
-    size_t entry = 7, stop = 7, place = 7, left = 7, size = 7, at, name, name_len, offset, len, masks;
+    size_t entry = 7, stop = 7, place = 7, left = 7, size = 7, at, name, name_len, offset, len, blocks, masks;
     memset(out, 0x5A, sizeof out);
     HOLD(sizeof whole == 69);
     HOLD(tsiv_twobit_start(2, 1, out, 26, &entry, &stop, &place, &left) == TSIV_NO_ROOM && entry + stop + left == 0);
@@ -346,6 +348,11 @@ static void twobit(void)
     HOLD(ADD(0, 0, &b, 1, 69) == 0 && entry == 27 && place == 69 && left == 0);
     HOLD(ADD(0, 0, NULL, 0, 70) == TSIV_BAD_RANGE && entry == 27 && place == 69);
     HOLD(tsiv_twobit_finish(entry, stop, place, left, &size) == 0 && size == 69);
+    /* no state whose index ends within the header is one: what a refused start leaves, and each side of the line */
+    HOLD(tsiv_twobit_finish(0, 0, 0, 0, &size) == TSIV_BAD_RANGE && size == 0);
+    HOLD(tsiv_twobit_finish(5, 5, 9, 0, &size) == TSIV_BAD_RANGE && size == 0);
+    HOLD(tsiv_twobit_finish(15, 15, 16, 0, &size) == TSIV_BAD_RANGE && size == 0);
+    HOLD(tsiv_twobit_finish(16, 16, 16, 0, &size) == 0 && size == 16);
     HOLD(memcmp(out, whole, 69) == 0 && out[69] == 0x5A);
     /* reading */
     memset(x, 0x5A, sizeof x), memset(y, 0x5A, sizeof y);
@@ -354,8 +361,15 @@ static void twobit(void)
     HOLD(tsiv_twobit_first(whole, 16, &size, &at) == 0 && size == 0 && at == 16);
     HOLD(tsiv_twobit_entry(whole, 69, &size, &at, &name, &name_len, &offset) == 0 && size == 1 && at == 21);
     HOLD(name == 17 && name_len == 0 && offset == 27);
+    HOLD(tsiv_twobit_record_info(whole, 69, offset, &len, &blocks, &masks) == 0 && len == 5);
+    HOLD(blocks == 1 && masks == 0 && TSIV_BASES_ROOM(len) == 50 && TSIV_FLAGS_ROOM(len) == 49);
     HOLD(tsiv_twobit_record(whole, 69, offset, x, 50, y, 48, &len, &masks) == TSIV_NO_ROOM && len + masks == 0);
     HOLD(tsiv_twobit_record(whole, 69, 69, x, 50, y, 49, &len, &masks) == TSIV_BAD_FORM && len + masks == 0);
+    len = blocks = masks = 7;
+    HOLD(tsiv_twobit_record_info(whole, 69, 69, &len, &blocks, &masks) == TSIV_BAD_FORM && len + blocks + masks == 0);
+    HOLD(tsiv_twobit_record_info(whole, 15, offset, &len, &blocks, &masks) == TSIV_BAD_FORM);
+    HOLD(tsiv_twobit_record_info(whole, 52, offset, &len, &blocks, &masks) == TSIV_BAD_FORM);
+    HOLD(tsiv_twobit_record_info(whole, 53, offset, &len, &blocks, &masks) == 0 && len == 5);
     HOLD(x[0] == 0x5A && y[0] == 0x5A);
     HOLD(tsiv_twobit_record(whole, 69, offset, x, 51, y, 50, &len, &masks) == 0 && len == 5 && masks == 0);
     HOLD(memcmp(x, bases, 50) == 0 && memcmp(y, flags, 49) == 0 && x[50] == 0x5A && y[49] == 0x5A);
@@ -364,7 +378,21 @@ static void twobit(void)
     HOLD(tsiv_twobit_record(whole, 69, offset, x, 51, y, 50, &len, &masks) == 0 && len == 0 && x[0] == 0);
     HOLD(tsiv_twobit_entry(whole, 69, &size, &at, &name, &name_len, &offset) == TSIV_BAD_RANGE);
     HOLD(size + at + name + name_len + offset == 0);
+    /* the same record with two N blocks and a mask block, in the other order of bytes; then with blocks that share a place */
+    static const uint8_t other[] = {0x1A, 0x41, 0x27, 0x43, 0, 0, 0, 0, 0, 0, 0, 0, 0, 0, 0, 0, /* header */
+                                    0,    0,    0,    5,    0, 0, 0, 2, 0, 0, 0, 4, 0, 0, 0, 1, /* N at 4 and 1 .. */
+                                    0,    0,    0,    1,    0, 0, 0, 2,                         /* .. 1 and 2 of them */
+                                    0,    0,    0,    1,    0, 0, 0, 0, 0, 0, 0, 5,             /* all masked */
+                                    0,    0,    0,    0,    0, 0};
+    HOLD(tsiv_twobit_record_info(other, sizeof other, 16, &len, &blocks, &masks) == 0 && len == 5);
+    HOLD(blocks == 2 && masks == 1);
+    memcpy(out, other, sizeof other);
+    out[39] = 4;
+    HOLD(tsiv_twobit_record_info(out, sizeof other, 16, &len, &blocks, &masks) == TSIV_BAD_FORM);
+    HOLD(len + blocks + masks == 0);
+    memcpy(out, whole, sizeof whole);
     out[4] = 1;
+    HOLD(tsiv_twobit_record_info(out, 69, 27, &len, &blocks, &masks) == TSIV_BAD_FORM);
     HOLD(tsiv_twobit_first(out, 69, &size, &at) == TSIV_BAD_FORM && tsiv_twobit_check(out, 69, &size) == TSIV_BAD_FORM);
 }
 
@@ -422,7 +450,8 @@ static void too_long(void)
     HOLD(tsiv_flags_overwrite_counted(big, more, &len, NULL, 0, 0, out, 0) == TSIV_TOO_LONG);
     HOLD(tsiv_flags_cut_counted(big, more, &len, NULL, 0, 0) == TSIV_TOO_LONG);
     HOLD(tsiv_flags_count(big, more, 0, NULL, 0, 0, 0, &word) == TSIV_TOO_LONG);
-    HOLD(tsiv_form_write(big, more, 0, 1, out, 64, 0, 1, out + 50, 14, &a) == TSIV_TOO_LONG);
+    HOLD(tsiv_form_write(big, more, 0, 1, out, 50, 0, 1, out + 50, 14, &a) == TSIV_TOO_LONG);
+    HOLD(tsiv_form_write(out, 50, 0, 1, big, more, 0, 1, out + 50, 14, &a) == TSIV_TOO_LONG && a == 0);
     HOLD(tsiv_form_read(big, more, out, 64, NULL, 0, &len) == TSIV_TOO_LONG);
     HOLD(tsiv_form_read(out, 64, big, more, NULL, 0, &len) == TSIV_TOO_LONG);
     HOLD(tsiv_form_read(out, 64, NULL, 0, big, more, &len) == TSIV_TOO_LONG && len == 0);
@@ -437,6 +466,8 @@ static void too_long(void)
     HOLD(tsiv_twobit_check(big, more, &a) == TSIV_BAD_FORM);
     HOLD(tsiv_twobit_start(0, 0, big, more, &a, &b, &c, &d) == 0 && b == 16);
     HOLD(tsiv_twobit_check(big, more, &a) == 0 && a == 0);
+    HOLD(tsiv_twobit_record_info(big, more, more - 16, &a, &b, &c) == 0 && (a | b | c) == 0);
+    HOLD(tsiv_twobit_record_info(big, more, more - 15, &a, &b, &c) == TSIV_BAD_FORM);
     HOLD(tsiv_twobit_record(big, more, more - 16, out, 48, NULL, 0, &a, &b) == TSIV_NO_ROOM);
     HOLD(tsiv_twobit_record(big, more, more - 15, out, 48, NULL, 0, &a, &b) == TSIV_BAD_FORM);
     /* the longest store of flags, and all entries wrong: the largest sum */

@@ -641,6 +641,15 @@ static struct {
     size_t many;
 } given;
 
+/* How many maximal runs of set flags a view of the flag track has. */
+static size_t runs(size_t offset, size_t len)
+{
+    size_t many = 0;
+    for (size_t i = offset; i < offset + len; i++)
+        many += character(1, given.flags->bytes, i) && !(i > offset && character(1, given.flags->bytes, i - 1));
+    return many;
+}
+
 /* A view that is accepted, nearly always. */
 static void fair_view(size_t w, size_t size, size_t *offset, size_t *len)
 {
@@ -654,7 +663,7 @@ static void fair_view(size_t w, size_t size, size_t *offset, size_t *len)
 static bool add_to_twobit(struct buffer *out, size_t i, size_t *entry, size_t *stop, size_t *place, size_t *left)
 {
     struct buffer *b = given.bases, *f = given.flags;
-    size_t o, n, r, m, *size = CELL(size_t), runs = 0;
+    size_t o, n, r, m, *size = CELL(size_t);
     uint32_t no;
     fair_view(2, b->size, &o, &n);
     fair_view(1, f->size, &r, &m);
@@ -663,9 +672,7 @@ static bool add_to_twobit(struct buffer *out, size_t i, size_t *entry, size_t *s
     given.at[i].offset = o, given.at[i].len = n, given.at[i].flag_offset = r;
     ASK(twobit_record_size, f->bytes, f->size, r, m, size);
     zero(no, *size);
-    for (size_t j = 0; !no && j < m; j++)
-        runs += character(1, f->bytes, r + j) && !(j && character(1, f->bytes, r + j - 1));
-    if (!no && *size != 16 + 8 * runs + up(2, m))
+    if (!no && *size != 16 + 8 * runs(r, m) + up(2, m))
         fail("the size of a record");
     size_t old = *entry, at = *place, more = *left, name = given.at[i].name_len;
     keep(out);
@@ -708,6 +715,8 @@ static bool write_twobit(struct buffer *out, size_t *size)
     }
     ASK(twobit_finish, *entry, *stop, *place, *left, size);
     zero(no, *size);
+    if (no != (*left || *entry != *stop || *stop < 16 || *stop > *place ? TSIV_BAD_RANGE : TSIV_DONE))
+        fail("a file that is not all there is finished, or one that is is not");
     if (right && (no || *size != *place))
         fail("a file with all its sequences is not finished");
     changed(out, 0, out->size);
@@ -726,17 +735,33 @@ static bool read_back(size_t i, const struct buffer *x, const struct buffer *y)
     return true;
 }
 
-/* One record; where the file is right, it is sequence i. */
+/* One record, which is what it says of itself; where the file is right, it is sequence i. */
 static uint32_t read_record(struct buffer *file, size_t offset, bool right, size_t i, struct buffer *x,
-                            struct buffer *y, size_t *len, size_t *masks)
+                            struct buffer *y, size_t *len, size_t *blocks, size_t *masks)
 {
     uint32_t no;
     uint8_t before[1024];
+    ASK(twobit_record_info, file->bytes, file->size, offset, len, blocks, masks);
+    zero(no, *len | *blocks | *masks);
+    uint32_t info = no;
+    size_t characters = *len, masked = *masks;
+    if (no != TSIV_DONE && no != TSIV_BAD_FORM)
+        fail("no such number");
+    if (!no && (file->size < 16 || offset > file->size - 16))
+        fail("a record outside the file");
+    else if (!no && *blocks != word(file->bytes + offset + 4, file->bytes[0] == 0x1A))
+        fail("the number of N blocks");
+    if (right && (no || *len != given.at[i].len || *blocks != runs(given.at[i].flag_offset, *len) || *masks))
+        fail("a record that was written says something else");
     keep(y);
     memcpy(before, kept, y->size);
     keep(x);
     ASK(twobit_record, file->bytes, file->size, offset, x->bytes, x->size, y->bytes, y->size, len, masks);
     zero(no, *len | *masks);
+    if (no ? no != (info ? TSIV_BAD_FORM : TSIV_NO_ROOM) : info || *len != characters || *masks != masked) {
+        asked = "twobit_record_info";
+        fail("a record is not what it says");
+    }
     stayed(x, 0, no ? 0 : up(2, *len) + 48, 0, 0);
     memcpy(kept, before, y->size);
     stayed(y, 0, no ? 0 : up(1, *len) + 48, 0, 0);
@@ -756,7 +781,8 @@ static uint32_t read_record(struct buffer *file, size_t offset, bool right, size
 static void read_twobit(struct buffer *file, bool right)
 {
     size_t *count_of = CELL(size_t), *next = CELL(size_t), *at = CELL(size_t), *name = CELL(size_t),
-           *name_len = CELL(size_t), *offset = CELL(size_t), *len = CELL(size_t), *masks = CELL(size_t);
+           *name_len = CELL(size_t), *offset = CELL(size_t), *len = CELL(size_t), *blocks = CELL(size_t),
+           *masks = CELL(size_t);
     struct buffer *x = make(48 + below(60) - below(2)), *y = make(48 + below(40) - below(2));
     uint32_t no;
     bool sound = ASK(twobit_check, file->bytes, file->size, count_of) == 0, all = true;
@@ -780,7 +806,7 @@ static void read_twobit(struct buffer *file, bool right)
             fail("an entry outside the file");
         if (right && (*name_len != given.at[i].name_len || memcmp(file->bytes + *name, given.name->bytes, *name_len)))
             fail("another name");
-        all = read_record(file, *offset, right, i, x, y, len, masks) != TSIV_BAD_FORM;
+        all = read_record(file, *offset, right, i, x, y, len, blocks, masks) != TSIV_BAD_FORM;
     }
     if (sound != all)
         fail("a file is sound and not read, or read and not sound");
@@ -789,7 +815,7 @@ static void read_twobit(struct buffer *file, bool right)
     *at = number(file->size);
     ASK(twobit_entry, file->bytes, file->size, next, at, name, name_len, offset);
     zero(no, *next | *at | *name | *name_len | *offset);
-    read_record(file, number(file->size), false, 0, x, y, len, masks);
+    read_record(file, number(file->size), false, 0, x, y, len, blocks, masks);
     changed(x, 0, x->size);
     changed(y, 0, y->size);
 }
@@ -850,5 +876,5 @@ int main(int argc, char **argv)
     }
     printf("fuzz: %lu calls of %lu kinds, %lu done, %lu refused; %lu failures\n", done + refused, kinds, done, refused,
            failures);
-    return failures || lacking || kinds != 81;
+    return failures || lacking || kinds != 82;
 }

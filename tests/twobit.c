@@ -10,6 +10,7 @@
  *     take SIZE; file BYTES                          what is read from now on: so much of the buffer, or these bytes; its size
  *     check                                          the number, the count
  *     first; entry NUMBER AT                         the number, the cursor, and of an entry its name's place and length and its offset
+ *     info OFFSET                                    the number, the length, the N blocks, the mask blocks
  *     record OFFSET ROOM ROOM                        the number, the length, the mask blocks, both whole buffers, 238 before
  *     far                                            a file of more than 2^32 bytes made here: "fine"
  *
@@ -52,6 +53,13 @@ static void asked_entry(void)
     printf("%u %zu %zu %zu %zu %zu", no, n, at, name, name_len, offset);
 }
 
+static void asked_info(void)
+{
+    size_t offset = number(), len = 7, blocks = 7, masks = 7;
+    uint32_t no = tsiv_twobit_record_info(file.at, file.size, offset, &len, &blocks, &masks);
+    printf("%u %zu %zu %zu", no, len, blocks, masks);
+}
+
 static void asked_record(void)
 {
     size_t offset = number(), len = 7, masks = 7;
@@ -71,7 +79,7 @@ static const char *far(void)
     static const uint8_t index[] = {1, 'x', 0xFF, 0xFF, 0xFF, 0xFF};
     const size_t last = 0xFFFFFFFF, size = last + sizeof record;
     uint8_t bases[50] = {0xB4, 3}, flags[49] = {16}, x[50], y[49];
-    size_t at, stop_at, next, more, written, n, name, name_len, offset, len, masks;
+    size_t at, stop_at, next, more, written, n, name, name_len, offset, len, blocks, masks;
     uint8_t *big = mmap(NULL, size, PROT_READ | PROT_WRITE, MAP_PRIVATE | MAP_ANONYMOUS | MAP_NORESERVE, -1, 0);
     if (big == MAP_FAILED)
         stop("no memory for a file of 2^32 bytes");
@@ -94,6 +102,10 @@ static const char *far(void)
     n = 0, at = 16;
     if (tsiv_twobit_entry(big, size, &n, &at, &name, &name_len, &offset) || offset != last || name_len != 1)
         return "entry";
+    if (tsiv_twobit_record_info(big, size, offset, &len, &blocks, &masks) || len != 5 || blocks != 1 || masks)
+        return "record_info";
+    if (tsiv_twobit_record_info(big, size - 1, offset, &len, &blocks, &masks) != TSIV_BAD_FORM || len || blocks)
+        return "record_info, a byte less";
     if (tsiv_twobit_record(big, size, offset, x, 50, y, 49, &len, &masks) || len != 5 || masks ||
         memcmp(x, bases, 50) || memcmp(y, flags, 49))
         return "record";
@@ -146,6 +158,8 @@ static void asked(const char *what)
         printf("%u %zu %zu", no, a, b);
     } else if (!strcmp(what, "entry")) {
         asked_entry();
+    } else if (!strcmp(what, "info")) {
+        asked_info();
     } else if (!strcmp(what, "record")) {
         asked_record();
     } else if (!strcmp(what, "far")) {
@@ -177,16 +191,17 @@ static void must(uint32_t no)
 
 static void list(const char *path)
 {
-    size_t count, n, at, name, name_len, offset, len, masks;
+    size_t count, n, at, name, name_len, offset, len, blocks, masks;
     file = read_file(path);
     if (tsiv_twobit_check(file.at, file.size, &count)) {
         puts("refused");
         return;
     }
-    struct bytes bases = room(TSIV_BASES_ROOM(4 * file.size), 0), flags = room(TSIV_FLAGS_ROOM(4 * file.size), 0);
     must(tsiv_twobit_first(file.at, file.size, &n, &at));
     while (n < count) {
         must(tsiv_twobit_entry(file.at, file.size, &n, &at, &name, &name_len, &offset));
+        must(tsiv_twobit_record_info(file.at, file.size, offset, &len, &blocks, &masks));
+        struct bytes bases = room(TSIV_BASES_ROOM(len), 0), flags = room(TSIV_FLAGS_ROOM(len), 0);
         must(tsiv_twobit_record(file.at, file.size, offset, bases.at, bases.size, flags.at, flags.size, &len, &masks));
         fwrite(file.at + name, 1, name_len, stdout);
         printf("\t%zu\t%zu\t", len, masks);
@@ -195,8 +210,8 @@ static void list(const char *path)
             putchar(!flag ? "ACTG"[code] : code == 3 ? 'N' : '?');
         }
         putchar('\n');
+        free(bases.at), free(flags.at);
     }
-    free(bases.at), free(flags.at);
 }
 
 int main(int argc, char **argv)

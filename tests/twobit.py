@@ -1,7 +1,8 @@
 """twobit.py FOLDER: .2bit files, from the rules alone: plain and slow, a character at a time. Writes FOLDER/cases for tests/twobit.c and
 FOLDER/answers, what the rules say to each. SEED sets where the dice begin.
 
-twobit.py -: a .2bit file to standard output, of the FASTA on standard input, as the rules write it."""
+twobit.py 2bit: a .2bit file to standard output, of the FASTA on standard input, as the rules write it.
+twobit.py fasta: that file as FASTA again: capitals, T for U, N for every other letter, in lines of 60."""
 import itertools
 import os
 import random
@@ -122,7 +123,7 @@ class Writing:
         return no
 
     def finish(self):
-        fine = self.left == 0 and self.entry == self.stop and self.stop <= self.place
+        fine = self.left == 0 and self.entry == self.stop and 16 <= self.stop <= self.place
         told("finish", 0 if fine else BAD_RANGE, self.place if fine else 0)
         return fine
 
@@ -225,9 +226,10 @@ def ask_entry(file, number, at):
 
 
 def ask_record(file, offset, rooms=None, more=(0, 0)):
-    """Into buffers that are exactly enough and so many bytes more, or of these sizes."""
+    """What it says of itself; then into buffers that are exactly enough and so many bytes more, or of these sizes."""
     head = header(file)
     got = head and sound(file, head[0], offset)
+    told(f"info {offset}", *((0, got[0], len(got[1]), got[2]) if got else (BAD_FORM, 0, 0, 0)))
     size, blocks, masks, data = got or (0, [], 0, b"")
     least = up(size, 4) + BEHIND, up(size, 8) + BEHIND
     given = rooms or tuple(max(0, a + b) for a, b in zip(least, more))
@@ -268,13 +270,13 @@ def foreign(sequences, order="little", reserved=0, spare=0, gap=0, turned=False,
     return words(SIGNATURE, 0, len(sequences) if count is None else count, reserved, order=order) + index + records + behind
 
 
-# ---- FASTA to .2bit, for what tests/run-c compares
+# ---- FASTA to .2bit and back, for what tests/run-c compares
 
 
 def fasta(text):
     found = []
     for line in text.split(b"\n"):
-        line = line.rstrip(b"\r")
+        line = line.removesuffix(b"\r")
         if line[:1] == b">":
             found.append(((line[1:].split() or [b""])[0], b""))
         elif line:
@@ -282,8 +284,14 @@ def fasta(text):
     return [(name, [letter // 2 % 4 for letter in letters], [int(letter not in b"ACGTUacgtu") for letter in letters]) for name, letters in found]
 
 
-if sys.argv[1] == "-":
+if sys.argv[1] == "2bit":
     sys.stdout.buffer.write(whole_file(fasta(sys.stdin.buffer.read())))
+    sys.exit()
+if sys.argv[1] == "fasta":
+    for name, bases, flags in fasta(sys.stdin.buffer.read()):
+        letters = "".join("N" if flag else OURS[base] for base, flag in zip(bases, flags))
+        lines = [name.decode(), *(letters[i : i + 60] for i in range(0, len(letters), 60))]
+        print(">" + "\n".join(lines))
     sys.exit()
 
 
@@ -398,6 +406,7 @@ for count, names in itertools.product([0, 1, 2, 7], [0, 1, 9]):
         writing = Writing(max(0, room))
         writing.start(count, names)
         writing.show()
+        writing.finish()
 for count, names in itertools.product([0, 1, *LARGE], [0, 1, 2**64 - 16, *LARGE]):
     Writing(20).start(count, names)
 
@@ -466,7 +475,8 @@ for _ in range(1500):
     writing.add(name_of(n), *views(some(2, length), some_flags(length)))
     writing.show()
     writing.finish()
-for state in itertools.product([0, 16, 17, 2**64 - 1], [16, 17, 2**64 - 1], [15, 16, 17, 18, 2**32, 2**64 - 1], [0, 1, 2**64 - 1]):
+MARKS = [0, 1, 5, 15, 16, 17, 2**64 - 1]
+for state in itertools.product(MARKS, MARKS, [0, 5, 9, 15, 16, 17, 18, 2**32, 2**64 - 1], [0, 1, 2**64 - 1]):
     Writing(0, *state).finish()
 for place in (2**32 - 2, 2**32 - 1, 2**32, 2**32 + 1, 2**64 - 17, 2**64 - 16, 2**64 - 1):
     for at, stop in ((16, 22), (2**64 - 7, 2**64 - 1), (2**64 - 6, 2**64 - 1), (2**64 - 1, 2**64 - 1), (place - 6, place), (place - 5, place)):
@@ -544,6 +554,21 @@ for _ in range(60):
         blocks[place] = blocks[place][0], dice.choice([0, 2, 3, n])
     ask(foreign([(b"m", n, blocks, any_masks(n), codes(n))], dice.choice(["little", "big"])))
 
+# Many blocks that rise, fall, or lie around those before; as they are, with empty ones between, and with one that is longer.
+for n in (2, 3, 4, 9, 40):
+    rising = [(3 * i, dice.choice([1, 2, 3])) for i in range(n)]
+    around = [rising[i // 2 if i % 2 else -1 - i // 2] for i in range(n)]
+    for blocks in (rising, rising[::-1], around, around[::-1], rising[1::2] + rising[::2], rising[::2][::-1] + rising[1::2]):
+        for _ in range(12):
+            changed = list(blocks)
+            for _ in range(dice.choice([0, 0, 1, 3])):
+                changed.insert(dice.randrange(len(changed) + 1), (dice.randrange(3 * n + 1), 0))
+            if dice.random() < 0.6:
+                place = dice.randrange(len(changed))
+                start = changed[place][0]
+                changed[place] = start, dice.choice([4, 3, 2, 1, 0, 3 * n - start])
+            ask(foreign([(b"o", 3 * n, changed, any_masks(3 * n), codes(3 * n))], dice.choice(["little", "big"])), 2)
+
 # Numbers that are too large: of sequences, of blocks, of characters; starts and sizes whose sum is beyond 32 bits.
 for order in ("little", "big"):
     for count in (1, 2, 3, 255, 256, 2**16, 2**31, 2**32 - 1):
@@ -572,9 +597,10 @@ for order in ("little", "big"):
 # Every prefix of a small file; every byte of it changed; other signatures and versions.
 for order in ("little", "big"):
     small = foreign([(b"ab", 6, [(1, 2), (4, 1)], [(0, 3)], codes(6)), (b"", 3, [], [], codes(3))], order)
+    assert sound(small, order, 28)
     for end in range(len(small) + 1):
         ask(small[:end])
-        ask_record(small[:end], 32, (60, 60))
+        ask_record(small[:end], 28, (60, 60))
     for at in range(len(small)):
         byte = small[at]
         for other in {0, 255, (byte + 1) % 256, (byte - 1) % 256, *(byte ^ 1 << bit for bit in range(8))} - {byte}:
@@ -582,6 +608,7 @@ for order in ("little", "big"):
     for first in (words(SIGNATURE), words(SIGNATURE, order="big")):
         for version in (words(0), words(1), words(1, order="big"), words(2**31), b"\0\0\1\0"):
             ask(first + version + small[8:])
+            ask_record(first + version + small[8:], 28, (60, 60))
     # Wrong cursors.
     ask_file(small)
     for number in (0, 1, 2, 3, 2**32 - 1, 2**32, 2**64 - 1):
@@ -589,7 +616,7 @@ for order in ("little", "big"):
             ask_entry(small, number, at)
     # Short buffers.
     for a, b in itertools.product([-60, -48, -1, 0, 1, 5], repeat=2):
-        ask_record(small, 32, more=(a, b))
+        ask_record(small, 28, more=(a, b))
         ask_record(small, 1, more=(a, b))
 for n in (0, 1, 4, 5, 8, 9, 16, 17, 33):
     file = foreign([(b"", n, [], [], codes(n))])
@@ -602,6 +629,12 @@ for n in (0, 1, 4, 5, 8, 9, 16, 17, 33):
 shared = foreign([(b"x", 4, [], [], codes(4))])
 ask(words(SIGNATURE, 0, 3, 0) + b"\1a" + words(34) + b"\1b" + words(34) + b"\1c" + words(34) + shared[22:])
 ask(words(SIGNATURE, 0, 2, 0) + b"\1a" + words(22) + shared[22:])
+# .. of which one is sound, and the other has two blocks that share a place.
+good, bad = (foreign([(b"x", 4, blocks, [], codes(4))])[22:] for blocks in ([(0, 2), (2, 1)], [(0, 2), (1, 1)]))
+for n in (1, 2, 3, 4):
+    for which in itertools.product([0, len(good)], repeat=n):
+        index = b"".join(b"\0" + words(16 + ENTRY * n + at) for at in which)
+        ask(words(SIGNATURE, 0, n, 0) + index + good + bad, n + 2)
 many = 2**16 + 1
 ask(words(SIGNATURE, 0, many, 0) + (b"\0" + words(16 + ENTRY * many)) * many + shared[22:], 3)
 for n in (15, 16, 17):

@@ -268,6 +268,36 @@ OVER(twobit_entry, const uint8_t *file, size_t file_size, size_t *number, size_t
 #endif
     return no;
 }
+#elif defined FINISHES_WITHIN_THE_HEADER
+OVER(twobit_finish, size_t entry, size_t stop, size_t place, size_t left, size_t *size)
+{
+    uint32_t no = REAL(twobit_finish)(entry, stop, place, left, size);
+    if (left || entry != stop || stop > place)
+        return no;
+    *size = place;
+    return 0;
+}
+#elif defined EXCHANGES_THE_TABLES || defined TELLS_OF_ANY_RECORD || defined TELLS_OF_ANY_VERSION
+OVER(twobit_record_info, const uint8_t *file, size_t file_size, size_t offset, size_t *len, size_t *blocks,
+     size_t *masks)
+{
+    uint32_t no = REAL(twobit_record_info)(file, file_size, offset, len, blocks, masks);
+#if defined EXCHANGES_THE_TABLES
+    /* The number of N blocks for that of mask blocks. */
+    size_t n = *blocks;
+    *blocks = *masks, *masks = n;
+    return no;
+#elif defined TELLS_OF_ANY_RECORD
+    return file_size >= 16 && offset < file_size && file[0] == 0x43 && file[4] == 0 ? 0 : no;
+#else
+    static uint8_t other[1024];
+    if (!no || offset < 16 || file_size > sizeof other)
+        return no;
+    for (size_t i = 0; i < file_size; i++)
+        other[i] = 4 <= i && i < 8 ? 0 : file[i];
+    return REAL(twobit_record_info)(other, file_size, offset, len, blocks, masks);
+#endif
+}
 #elif defined NO_ZEROS_BEHIND || defined COUNTS_NO_MASKS || defined READS_T_UNDER_N || defined READS_OTHER_FLAGS
 OVER(twobit_record, const uint8_t *file, size_t file_size, size_t offset, uint8_t *bases, size_t bases_size,
      uint8_t *flags, size_t flags_size, size_t *len, size_t *masks)

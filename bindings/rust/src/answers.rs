@@ -6,8 +6,10 @@ use std::{error::Error, fmt};
 #[derive(Clone, Copy, Debug, Default, PartialEq, Eq, PartialOrd, Ord, Hash)]
 pub struct Chars(pub usize);
 
-/// Why a call refuses: its number, and its name in the rules.
+/// Why a call refuses: its number, and its name in the rules. Of several that hold the lowest is given, but `Partial` before
+/// `NoRoom`; a refused call changes no lent byte. Later versions may refuse for more reasons.
 #[derive(Clone, Copy, Debug, PartialEq, Eq, Hash)]
+#[non_exhaustive]
 #[repr(u32)]
 pub enum Refusal {
     /// A view's bytes, a store's buffer or a stored form to be read exceeds 2^28 bytes.
@@ -16,7 +18,8 @@ pub enum Refusal {
     BadStore = 2,
     /// A view's offset, length and 48 bytes behind exceed its bytes.
     BadView = 3,
-    /// An index, an end or a start outside its range; tracks of unequal lengths.
+    /// An index, an end or a start outside its range; tracks of unequal lengths, or too long for a form; what a .2bit file cannot
+    /// hold, or its state does not allow; a cursor past the last entry.
     BadRange = 4,
     /// A word's length outside its range.
     BadWord = 5,
@@ -142,7 +145,7 @@ pub struct Filled {
 /// The running state of flag windows: eight lane counts and the step; `Windows::default()` is the start.
 #[derive(Clone, Copy, Debug, Default, PartialEq, Eq)]
 pub struct Windows {
-    /// The set flags in each lane's window.
+    /// The set flags of each lane among the last k - 1 positions.
     pub counts: [u32; 8],
     /// The step.
     pub step: usize,

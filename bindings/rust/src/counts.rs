@@ -13,13 +13,17 @@
 
 use crate::{flags, sys, Chars, Pushed, Refusal};
 
-/// The entries beside a store of n flags.
+/// The entries beside a store of n flags: one for each block of 256.
 pub fn room(n: Chars) -> usize {
     // SAFETY: it takes a number.
     unsafe { sys::tsiv_counts_room(n.0) }
 }
 
-/// A lent buffer with a length in characters, and lent entries that each call brings up to date.
+/// A lent buffer with a length in characters, and lent entries. A call counts the blocks of the new length that have a character
+/// which it writes, cuts or makes a gap of; all other entries keep their numbers. So a call that touches no character mends none.
+///
+/// Every call on it refuses what the same call of [`flags::Store`] does, and `NoRoom` also for fewer entries than [`room`] of the
+/// new length, where it touches no character too. Refused, buffer, length and entries stay what they were.
 #[derive(Debug)]
 pub struct Store<'a> {
     buffer: &'a mut [u8],
@@ -28,7 +32,9 @@ pub struct Store<'a> {
 }
 
 impl<'a> Store<'a> {
-    /// Makes a buffer an empty store; what the entries hold before does not matter.
+    /// Makes a buffer an empty store; what the entries hold before does not matter, and none is needed.
+    ///
+    /// Refused: `TooLong`; `NoRoom` for a buffer under 48 bytes.
     pub fn clear(buffer: &'a mut [u8], entries: &'a mut [u16]) -> Result<Self, Refusal> {
         let mut len = 0;
         // SAFETY: the slices' own pointers and lengths, borrowed apart, as below.
@@ -79,7 +85,11 @@ impl<'a> Store<'a> {
         flags::View::unasked(self.buffer, Chars(0), self.len)
     }
 
-    /// How many flags are set from character `start` up to character `end`, by the entries.
+    /// How many flags are set from character `start` up to character `end`: the sum of the entries of the blocks that lie in the
+    /// range whole, and the plain count of its ends.
+    ///
+    /// Refused: `TooLong`; `BadStore`; `BadRange` for an end beyond the length or a start after its end; `NoRoom` for fewer entries
+    /// than [`room`] of the length.
     pub fn count(&self, start: Chars, end: Chars) -> Result<u64, Refusal> {
         let mut total = 0;
         // SAFETY: as in `clear`.
@@ -98,7 +108,7 @@ impl<'a> Store<'a> {
         Refusal::check(number).map(|()| total)
     }
 
-    /// Puts the flags of letters at the end.
+    /// Puts the flags of letters at the end. Refused: `TooLong`; `BadStore`; `NoRoom`, of the buffer or of the entries.
     pub fn push_ascii(&mut self, letters: &[u8]) -> Result<Pushed, Refusal> {
         let (mut start, mut end) = (0, 0);
         // SAFETY: as in `clear`.
@@ -118,7 +128,9 @@ impl<'a> Store<'a> {
         Pushed::check(number, start, end, self.len)
     }
 
-    /// Puts a view behind, in a byte of its own.
+    /// Puts a view behind, in a byte of its own, at its offset's place there; the flags of the gap before it are set.
+    ///
+    /// Refused: `TooLong`, also for the view's bytes; `BadStore`; `BadView`; `NoRoom`, of the buffer or of the entries.
     pub fn push_seq(&mut self, view: flags::View<'_>) -> Result<Pushed, Refusal> {
         let (mut start, mut end) = (0, 0);
         // SAFETY: as in `clear`.
@@ -141,6 +153,8 @@ impl<'a> Store<'a> {
     }
 
     /// Puts the flags of letters over those from `start` on.
+    ///
+    /// Refused: `TooLong`; `BadStore`; `BadRange` where they end beyond the length; `NoRoom` of the entries.
     pub fn overwrite(&mut self, start: Chars, letters: &[u8]) -> Result<(), Refusal> {
         // SAFETY: as in `clear`.
         Refusal::check(unsafe {
@@ -157,7 +171,7 @@ impl<'a> Store<'a> {
         })
     }
 
-    /// Leaves the first m characters.
+    /// Leaves the first m characters. Refused: `TooLong`; `BadStore`; `BadRange` for m above the length; `NoRoom` of the entries.
     pub fn cut(&mut self, m: Chars) -> Result<(), Refusal> {
         // SAFETY: as in `clear`.
         Refusal::check(unsafe {

@@ -8,7 +8,10 @@ pub fn room(n: Chars) -> usize {
     unsafe { sys::tsiv_form_room(n.0) }
 }
 
-/// Writes the form of two views to the front of a buffer; its bytes.
+/// Writes the form of two views to the front of a buffer, where later bytes stay; its bytes.
+///
+/// Refused: `TooLong` and `BadView` of either view; `BadRange` for unequal lengths, or more than 2^29; `NoRoom` for a buffer under
+/// [`room`] of the length.
 pub fn write(
     bases: bases::View<'_>,
     flags: flags::View<'_>,
@@ -35,7 +38,10 @@ pub fn write(
     Refusal::check(number).map(|()| written)
 }
 
-/// Fills two buffers as stores of the form's length, which it gives.
+/// Fills two buffers as stores of the form's length, which it gives; later bytes stay. `form.len() + 48` bytes for each suffice.
+///
+/// Refused: `TooLong` for a form or a buffer of more than 2^28 bytes; `BadForm` for bytes that are no form; `NoRoom` for buffers under
+/// [`bases::room`] and [`flags::room`] of the length.
 pub fn read(form: &[u8], bases: &mut [u8], flags: &mut [u8]) -> Result<Chars, Refusal> {
     let mut len = 0;
     // SAFETY: the slices' own pointers and lengths; the three are borrowed apart.

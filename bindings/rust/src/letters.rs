@@ -20,12 +20,12 @@ fn symbol(call: Call, byte: u8) -> Result<u8, Refusal> {
     Refusal::check(unsafe { call(byte, &mut to) }).map(|()| to)
 }
 
-/// The code of one of ACGTUacgtu.
+/// The code of one of ACGTUacgtu. Refused: `BadLetter` for any other byte.
 pub fn pack_char(byte: u8) -> Result<u8, Refusal> {
     symbol(sys::tsiv_pack_char, byte)
 }
 
-/// The code that packing gives any byte.
+/// The code that packing gives any byte, (byte / 2) mod 4; N gives 3.
 pub fn pack_char_lossy(byte: u8) -> u8 {
     // SAFETY: it takes a number.
     unsafe { sys::tsiv_pack_char_lossy(byte) }
@@ -37,17 +37,17 @@ pub fn char_is_ambiguous(byte: u8) -> u8 {
     unsafe { sys::tsiv_char_is_ambiguous(byte) }
 }
 
-/// The capital letter of a code.
+/// The capital letter of a code. Refused: `BadLetter` for a code above 3.
 pub fn unpack_base(code: u8) -> Result<u8, Refusal> {
     symbol(sys::tsiv_unpack_base, code)
 }
 
-/// The capital letter that pairs with a capital letter.
+/// The capital letter that pairs with A, C, G or T. Refused: `BadLetter` for any other byte, U among them.
 pub fn complement_char(byte: u8) -> Result<u8, Refusal> {
     symbol(sys::tsiv_complement_char, byte)
 }
 
-/// The code of the base that pairs with a base.
+/// The code of the base that pairs with a base. Refused: `BadLetter` for a code above 3.
 pub fn complement_base(code: u8) -> Result<u8, Refusal> {
     symbol(sys::tsiv_complement_base, code)
 }

@@ -14,13 +14,18 @@ macro_rules! width {
                 $(pub(super) use crate::sys::$sys as $call;)*
             }
 
-            /// The bytes of a store, or of a reverse complement, of n characters: the 48 behind included.
+            /// The bytes of a store, or of a reverse complement, of n characters: the 48 behind, no part of the length, included.
             pub fn room(n: Chars) -> usize {
                 // SAFETY: it takes a number.
                 unsafe { call::room(n.0) }
             }
 
-            /// The numbers of a stream over `len` characters.
+            /// The numbers of a stream over `len` characters; [`lanes_room`](crate::lanes_room) of its steps is a buffer's room.
+            ///
+            /// The context is how many characters the windows have that are wanted of the stream: each of them begins in one lane
+            /// and ends within its steps. The factor is 1, or 2 over bases for the lanes that 1 gives over flags.
+            ///
+            /// Refused: `BadStream` for a context outside 1 to 2^31 or a factor other than 1 and 2.
             pub fn shape(len: Chars, context: Chars, factor: usize) -> Result<Shape, Refusal> {
                 let (mut lane, mut steps, mut padding) = (0, 0, 0);
                 // SAFETY: the numbers behind the pointers are ours.
@@ -34,7 +39,10 @@ macro_rules! width {
                 })
             }
 
-            /// Bytes, an offset and a length held together. Bits outside it count for nothing.
+            /// Bytes, an offset and a length held together. 48 bytes are lent behind the last character, because the calls may read
+            /// them; bits outside the view count for nothing.
+            ///
+            /// Every call on a view is refused where [`View::new`] would be, with `TooLong` or `BadView`, before what it names.
             #[derive(Clone, Copy, Debug)]
             pub struct View<'a> {
                 bytes: &'a [u8],
@@ -44,6 +52,8 @@ macro_rules! width {
 
             impl<'a> View<'a> {
                 /// A view that is accepted.
+                ///
+                /// Refused: `TooLong` for more than 2^28 bytes; `BadView` for an offset, a length and 48 bytes behind that exceed them.
                 pub fn new(bytes: &'a [u8], offset: Chars, len: Chars) -> Result<Self, Refusal> {
                     let asked = View::unasked(bytes, offset, len);
                     asked.part(|b, n, at, size, o, l| {
@@ -108,6 +118,8 @@ macro_rules! width {
                 }
 
                 /// The characters from `start` up to `end`, in the same bytes.
+                ///
+                /// Refused: `BadRange` for an end beyond the length or a start after its end.
                 pub fn slice(self, start: Chars, end: Chars) -> Result<Self, Refusal> {
                     self.part(|b, n, at, size, o, l| {
                         // SAFETY: as in `new`.
@@ -119,7 +131,7 @@ macro_rules! width {
                     })
                 }
 
-                /// The same characters in the fewest bytes.
+                /// The same characters in the fewest bytes, the 48 behind among them. Refused: as every call on a view.
                 pub fn normalise(self) -> Result<Self, Refusal> {
                     self.part(|b, n, at, size, o, l| {
                         // SAFETY: as in `new`.
@@ -127,7 +139,7 @@ macro_rules! width {
                     })
                 }
 
-                /// Character i.
+                /// Character i. Refused: `BadRange` for i not below the length.
                 pub fn get(self, i: Chars) -> Result<u8, Refusal> {
                     let mut code = 0;
                     let (b, n) = (self.bytes.as_ptr(), self.bytes.len());
@@ -138,6 +150,8 @@ macro_rules! width {
                 }
 
                 /// Character i of the characters from `start` up to `end`.
+                ///
+                /// Refused: `BadRange` where [`View::slice`] is, and for i not below `end - start`.
                 pub fn get_sliced(self, start: Chars, end: Chars, i: Chars) -> Result<u8, Refusal> {
                     let mut code = 0;
                     let (b, n) = (self.bytes.as_ptr(), self.bytes.len());
@@ -180,27 +194,31 @@ macro_rules! width {
                     Refusal::check(number).map(|()| joined(low, high))
                 }
 
-                /// Its word.
+                /// Its word. Refused: `BadWord` for more than 32 bases or 64 flags.
                 pub fn as_u64(self) -> Result<u64, Refusal> {
                     self.word(call::as_u64)
                 }
 
-                /// Its word in 128 bits.
+                /// Its word in 128 bits. Refused: `BadWord` for more than 64 bases or 128 flags.
                 pub fn as_u128(self) -> Result<u128, Refusal> {
                     self.word_u128(call::as_u128)
                 }
 
                 /// The word of its reverse complement; flags are reversed only.
+                ///
+                /// Refused: `BadWord` for no character, or more than 32 bases or 64 flags.
                 pub fn revcomp_as_u64(self) -> Result<u64, Refusal> {
                     self.word(call::revcomp_as_u64)
                 }
 
-                /// The same in 128 bits.
+                /// The same in 128 bits. Refused: `BadWord` for no character, or more than 64 bases or 128 flags.
                 pub fn revcomp_as_u128(self) -> Result<u128, Refusal> {
                     self.word_u128(call::revcomp_as_u128)
                 }
 
-                /// Its reverse complement, written to a buffer; flags are reversed only.
+                /// Its reverse complement, written to the front of a buffer, 48 zeros behind; later bytes stay. Flags are reversed only.
+                ///
+                /// Refused: `NoRoom` for a buffer under [`room`] of the length.
                 pub fn to_revcomp(self, out: &mut [u8]) -> Result<View<'_>, Refusal> {
                     let (b, n) = (self.bytes.as_ptr(), self.bytes.len());
                     // SAFETY: the slices' own pointers and lengths; `out` is borrowed apart.
@@ -212,8 +230,10 @@ macro_rules! width {
                     Refusal::check(number).map(|()| View::unasked(out, Chars(0), self.len))
                 }
 
-                /// The order, and how many leading characters are equal. The first differing character decides, else the shorter is first;
-                /// the order is `Equal` exactly if both have the same characters.
+                /// The order, and how many leading characters are equal. The first differing character decides, by its code, else the
+                /// shorter is first; the order is `Equal` exactly if both have the same characters.
+                ///
+                /// Refused: as every call on a view, of either.
                 pub fn compare(self, b: View<'_>) -> Result<(Ordering, Chars), Refusal> {
                     let (mut order, mut common) = (0, 0);
                     // SAFETY: the slices' own pointers and lengths, as in the two below.
@@ -227,7 +247,7 @@ macro_rules! width {
                     Refusal::check(number).map(|()| (order.cmp(&0), Chars(common)))
                 }
 
-                /// The least place where a pattern stands in it.
+                /// The least place where a pattern stands in it; the empty one stands at 0. Refused: as every call on a view, of either.
                 pub fn find(self, pattern: View<'_>) -> Result<Option<Chars>, Refusal> {
                     let (mut there, mut place) = (false, 0);
                     // SAFETY: as in `compare`.
@@ -241,7 +261,7 @@ macro_rules! width {
                     Refusal::check(number).map(|()| there.then_some(Chars(place)))
                 }
 
-                /// Whichever comes first, normalised; at a tie, this one.
+                /// Whichever comes first, normalised; at a tie, this one. Refused: as every call on a view, of either.
                 pub fn least(self, b: View<'a>) -> Result<View<'a>, Refusal> {
                     let mut second = false;
                     let (mut at, mut size, mut offset, mut len) = (0, 0, 0, 0);
@@ -263,7 +283,9 @@ macro_rules! width {
                     }))
                 }
 
-                /// All steps of a stream: step j, lane l at entry 8 j + l.
+                /// All steps of a stream: step j, lane l at entry 8 j + l; later entries stay.
+                ///
+                /// Refused: `BadStream` where [`shape`] is; `NoRoom` for a buffer under [`lanes_room`](crate::lanes_room) of its steps.
                 pub fn fill(
                     self,
                     context: Chars,
@@ -282,7 +304,10 @@ macro_rules! width {
                     Refusal::check(number).map(|()| Filled { steps, padding: Chars(padding) })
                 }
 
-                /// The same, and a buffer for a delay.
+                /// The same, and a buffer for a delay: step j has there the character of step j - `delay`, which leaves a window of so many
+                /// where the other enters it.
+                ///
+                /// Refused: as [`View::fill`], either buffer; `BadStream` also for a delay above 2^31.
                 pub fn fill_delayed(
                     self,
                     context: Chars,
@@ -304,6 +329,8 @@ macro_rules! width {
                 }
 
                 /// The same, and a buffer for each of two delays.
+                ///
+                /// Refused: as [`View::fill_delayed`], any buffer, either delay; `BadStream` also for a first delay above the second.
                 pub fn fill_delayed_2(
                     self,
                     context: Chars,
@@ -326,7 +353,7 @@ macro_rules! width {
                     Refusal::check(number).map(|()| Filled { steps, padding: Chars(padding) })
                 }
 
-                /// The eight lanes of step j.
+                /// The eight lanes of step j. Refused: `BadStream` where [`shape`] is, and for j at or past its steps.
                 pub fn step(
                     self,
                     context: Chars,
@@ -344,7 +371,7 @@ macro_rules! width {
                     Refusal::check(number).map(|()| lanes)
                 }
 
-                /// The same, and those of a delay.
+                /// The same, and those of a delay. Refused: as [`View::step`]; `BadStream` also for a delay above 2^31.
                 pub fn step_delayed(
                     self,
                     context: Chars,
@@ -364,6 +391,8 @@ macro_rules! width {
                 }
 
                 /// The same, and those of two delays.
+                ///
+                /// Refused: as [`View::step_delayed`], either delay; `BadStream` also for a first delay above the second.
                 pub fn step_delayed_2(
                     self,
                     context: Chars,
@@ -384,7 +413,13 @@ macro_rules! width {
                 }
             }
 
-            /// A lent buffer and a length in characters.
+            /// A lent buffer and a length in characters; 48 bytes stand behind the last one, no part of the length.
+            ///
+            /// Every call on a store is refused with `TooLong` for a buffer of more than 2^28 bytes, and with `BadStore` where the
+            /// bytes of the length and 48 more exceed it, before what it names. Refused, the store stays what it was.
+            ///
+            /// Letters may be any bytes. Of bases N becomes G and a line feed C: push the same letters to a store of flags, which
+            /// marks them, and take line ends off before.
             #[derive(Debug)]
             pub struct Store<'a> {
                 buffer: &'a mut [u8],
@@ -392,7 +427,7 @@ macro_rules! width {
             }
 
             impl<'a> Store<'a> {
-                /// Makes a buffer an empty store.
+                /// Makes a buffer an empty store: writes 48 zeros. Refused: `TooLong`; `NoRoom` for a buffer under 48 bytes.
                 pub fn clear(buffer: &'a mut [u8]) -> Result<Self, Refusal> {
                     let mut len = 0;
                     // SAFETY: the slice's own pointer and length.
@@ -425,7 +460,9 @@ macro_rules! width {
                     View::unasked(self.buffer, Chars(0), self.len)
                 }
 
-                /// Puts the codes of letters at the end.
+                /// Puts the codes, or the flags, of letters at the end. Writes from the byte of the old length to the 48 zeros behind.
+                ///
+                /// Refused: `NoRoom` for a buffer under [`room`] of the new length.
                 pub fn push_ascii(&mut self, letters: &[u8]) -> Result<Pushed, Refusal> {
                     let (mut start, mut end) = (0, 0);
                     // SAFETY: the slices' own pointers and lengths, borrowed apart, as below.
@@ -438,7 +475,10 @@ macro_rules! width {
                     Pushed::check(number, start, end, self.len)
                 }
 
-                /// Puts a view behind, in a byte of its own.
+                /// Puts a view behind, in a byte of its own, at its offset's place there. The gap before it, which an empty view makes
+                /// too, is filled with A, or with set flags.
+                ///
+                /// Refused: what [`View::new`] refuses of the view; `NoRoom` for a buffer under [`room`] of the new length.
                 pub fn push_seq(&mut self, view: View<'_>) -> Result<Pushed, Refusal> {
                     let (mut start, mut end) = (0, 0);
                     // SAFETY: as in `push_ascii`.
@@ -452,7 +492,9 @@ macro_rules! width {
                     Pushed::check(number, start, end, self.len)
                 }
 
-                /// Puts the codes of letters over those from `start` on.
+                /// Puts the codes, or the flags, of letters over the characters from `start` on; every other bit stays.
+                ///
+                /// Refused: `BadRange` where they end beyond the length.
                 pub fn overwrite(&mut self, start: Chars, letters: &[u8]) -> Result<(), Refusal> {
                     // SAFETY: as in `push_ascii`.
                     Refusal::check(unsafe {
@@ -463,7 +505,7 @@ macro_rules! width {
                     })
                 }
 
-                /// Leaves the first m characters.
+                /// Leaves the first m characters, with 48 zeros behind. Refused: `BadRange` for m above the length.
                 pub fn cut(&mut self, m: Chars) -> Result<(), Refusal> {
                     // SAFETY: the slice's own pointer and length.
                     Refusal::check(unsafe {
@@ -540,7 +582,9 @@ width! {
 }
 
 impl bases::View<'_> {
-    /// Writes its capital letters to the front of a buffer.
+    /// Writes its capital letters to the front of a buffer; later bytes stay.
+    ///
+    /// Refused: as every call on a view; `NoRoom` for a buffer of fewer bytes than its length.
     pub fn unpack(self, out: &mut [u8]) -> Result<(), Refusal> {
         let (b, n) = (self.bytes().as_ptr(), self.bytes().len());
         // SAFETY: the slices' own pointers and lengths, borrowed apart.
@@ -558,8 +602,13 @@ impl bases::View<'_> {
 }
 
 impl flags::View<'_> {
-    /// Windows of k flags from step `skip` on: all 32 bits set where one of them is set. A skip below k - 1 would give windows of fewer
-    /// flags, and a context below k leave out those that start at the end of a lane: both are refused.
+    /// Windows of k flags from step `skip` on: all 32 bits set where one of them is set. Context k and skip k - 1 give every
+    /// window; a view of fewer than k flags has none, and is filled with skip 0. A smaller skip would give windows of fewer flags,
+    /// and a smaller context leave out those that start at the end of a lane.
+    ///
+    /// Refused: as every call on a view; `BadStream` where [`flags::shape`] is with factor 1, for k outside 1 to 96 and for a skip
+    /// above the steps; then `Partial`, if there are steps, for a skip below k - 1 or a context below k; then `NoRoom` for a
+    /// buffer under [`lanes_room`](crate::lanes_room) of the steps less the skip.
     ///
     /// ```
     /// use tsivelaro::{flags, Chars, Refusal};
@@ -605,7 +654,11 @@ impl flags::View<'_> {
         })
     }
 
-    /// The windows of the step that the state names, and the next state. The first k - 1 steps have windows of fewer flags.
+    /// The windows of the step that the state names, and the next state. The first k - 1 steps have windows of fewer flags; any
+    /// context is taken.
+    ///
+    /// Refused: as every call on a view; `BadStream` where [`flags::shape`] is with factor 1, for k outside 1 to 96, a step at or
+    /// past the steps, a count above k - 1, or a sum of count and entering flag below the flag to take off.
     pub fn step_windows(
         self,
         context: Chars,
