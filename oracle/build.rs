@@ -3,9 +3,12 @@
 use std::{env, fs, path::Path};
 
 fn main() {
-    let folder = env::var("PACKED_SEQ_SRC").unwrap_or("../../shared/docs/src".into());
-    let published = Path::new(&folder).join("src--src--packed_seq.rs.txt");
     println!("cargo::rerun-if-env-changed=PACKED_SEQ_SRC");
+    let Ok(folder) = env::var("PACKED_SEQ_SRC") else {
+        println!("cargo::error=Set PACKED_SEQ_SRC to the folder that holds the published source.");
+        return;
+    };
+    let published = Path::new(&folder).join("src--src--packed_seq.rs.txt");
     println!("cargo::rerun-if-changed={}", published.display());
     match fs::read(&published) {
         Ok(text) => {
