@@ -37,7 +37,7 @@ use Rattle.stores.specs.Stores.{clear, pushAscii, pushSeq, overwrite, cut, outc
 use Rattle.streams.specs.Streams.{roomTests, badStep}
 use Rattle.twobit.specs.Blocks.{blocksFrom, allInside, clearOf, apart}
 use Rattle.twobit.specs.Files.{offsetSize, spelled, recordSize, headerOf, fileOf}
-use Rattle.twobit.specs.Reading.{goodHeader, sequences, isTwoBit, pastLast, recordTests, recordOutcome}
+use Rattle.twobit.specs.Reading.{goodHeader, sequences, isTwoBit, pastLast, infoAnswer, recordTests, recordOutcome, recordAnswer}
 use Rattle.twowrite.specs.Writing.{writing, manySequences, startTests, unequal, longName, badState, farRecord, addTests, unfinished}
 use Rattle.windows.specs.Windows.{badWindow, laneWindow, fillTests, runTests}
 use Rattle.writes.specs.Writes.{unpackOutcome, flipOutcome}
@@ -368,13 +368,25 @@ file-lines = (refl, refl, refl, refl, refl, refl, refl, refl, refl, refl, refl, 
 abbrev pub small : List ℕ
 small = fileOf false 0 offsetSize (record { name = 65 ∷ []; bases = 0 ∷ []; flags = 0 ∷ [] } ∷ [])
 
--- N blocks, inside the sequence and apart; the last byte of a file; 2^28 bytes of a buffer for its bases or its flags, and room for them
+-- the same, with one mask block; and with one N block
+abbrev pub masked : List ℕ
+masked = take 30 small ++ (spelled false 4 1 ++ (spelled false 4 0 ++ (spelled false 4 1 ++ drop 34 small)))
+
+abbrev pub unknown : List ℕ
+unknown = take 26 small ++ (spelled false 4 1 ++ (spelled false 4 0 ++ (spelled false 4 1 ++ drop 30 small)))
+
+-- N blocks, inside the sequence and apart; how many N blocks and mask blocks a record has; the last byte of a file; 2^28 bytes of a buffer for its bases or its flags, and room for them
 abbrev pub RecordLines : Type 0
 RecordLines =
     (allInside 5 (record { start = 3; size = 2 } ∷ []) ≡ true)
     × (allInside 5 (record { start = 3; size = 3 } ∷ []) ≡ false)
     × (apart (record { start = 0; size = 3 } ∷ record { start = 3; size = 2 } ∷ []) ≡ true)
     × (apart (record { start = 0; size = 4 } ∷ record { start = 3; size = 2 } ∷ []) ≡ false)
+    × (infoAnswer small 22 ≡ answer Done (1, (0, 0)) (0, (0, 0)))
+    × (infoAnswer masked 22 ≡ answer Done (1, (0, 1)) (0, (0, 0)))
+    × (infoAnswer unknown 22 ≡ answer Done (1, (1, 0)) (0, (0, 0)))
+    × (recordAnswer masked 22 (replicate 49 0) (replicate 49 0) ≡ answer Done (1, 1) (0, 0))
+    × (recordAnswer unknown 22 (replicate 49 0) (replicate 49 0) ≡ answer Done (1, 0) (0, 0))
     × (isTwoBit small ≡ true)
     × (isTwoBit (take 38 small) ≡ false)
     × Line (λ m. first (recordTests small 22 m 49)) (2 ^ 28) (2 ^ 28 + 1) TooLong
@@ -383,8 +395,8 @@ RecordLines =
     × Line (λ m. recordOutcome small 22 (replicate 49 0) (replicate m 0)) 49 48 NoRoom
 
 record-lines : RecordLines
-unfolding apart fileOf isTwoBit recordOutcome dna tab word charsOf runsFrom allInside clearOf numberAt blocksFrom
-record-lines = (refl, refl, refl, refl, refl, refl, refl, refl, refl, refl)
+unfolding apart fileOf isTwoBit infoAnswer recordAnswer recordOutcome dna tab word charsOf runsFrom allInside clearOf numberAt blocksFrom
+record-lines = (refl, refl, refl, refl, refl, refl, refl, refl, refl, refl, refl, refl, refl, refl, refl)
 
 -- the program: 16,384 letters of a record, and the buffers for them; numbers of 64 bits; 96 bytes to write to; the heading's 30; one CR of a line's end
 abbrev pub RowLines : Type 0
