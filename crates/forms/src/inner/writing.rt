@@ -86,8 +86,8 @@ pub(crate) fn write_form(
 {
     let n = len.count();
     let base_at = 1 + spelt_size(n as u64);
-    let flag_at_lem = base_at + len.bytes_as_bases().count();
+    let flag_at = base_at + len.bytes_as_bases().count();
     write_head(n as u64, out);
     write_track(2, bases, ao, n, out, base_at);
-    write_track(1, flags, bo, n, out, flag_at_lem);
+    write_track(1, flags, bo, n, out, flag_at);
 }
