@@ -1,4 +1,6 @@
 // The C face: one exported function for each public call, which returns the refusal number and gives its other numbers through pointers.
+#![tactic(auto)]
+
 pub mod bases;
 pub mod files;
 pub mod flags;

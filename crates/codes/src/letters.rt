@@ -7,7 +7,7 @@ ghost use Rattle.codes.specs.Refusals.{answer, first, bad_letter, bad_capital, b
 use crate::refusals::Refusal;
 
 // A letter or a code.
-#[derive(Drop)]
+#[derive(Clone, Copy)]
 pub enum Symbol {
     Is(u8),
     Refused(Refusal),

@@ -8,11 +8,11 @@ use crate::inner::counts::bytes_for;
 pub const TRAILING: usize = 48;
 
 // A count of characters, or the place of one.
-#[derive(Drop)]
+#[derive(Clone, Copy)]
 pub struct Chars(usize);
 
 // A count of bytes, or the place of one.
-#[derive(Drop)]
+#[derive(Clone, Copy)]
 pub struct Bytes(usize);
 
 impl Chars {

@@ -10,13 +10,13 @@ use crate::inner::packing::{pack, unpack_up_to};
 use crate::refusals::{Outcome, Refusal};
 use crate::units::Chars;
 
-#[derive(Drop)]
+#[derive(Clone, Copy)]
 pub enum Word {
     Is(u64),
     Refused(Refusal),
 }
 
-#[derive(Drop)]
+#[derive(Clone, Copy)]
 pub enum Word128 {
     Is { low: u64, high: u64 },
     Refused(Refusal),

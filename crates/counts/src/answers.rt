@@ -2,7 +2,7 @@
 use codes::refusals::Refusal;
 
 // How many flags are set.
-#[derive(Drop)]
+#[derive(Clone, Copy)]
 pub enum Count {
     Is(u64),
     Refused(Refusal),

@@ -8,7 +8,7 @@ use crate::reader::{BASES, FLAGS, OUT, Reader, finish, step};
 
 // What is left to do: read on, as the part is used up; write the text out and feed the rest of the part, as fewer than OUT bytes are
 // left in the text; or write it out and stop, as the report is complete.
-#[derive(Drop)]
+#[derive(Clone, Copy)]
 pub enum Then {
     Read,
     Write,
@@ -16,7 +16,7 @@ pub enum Then {
 }
 
 // The reader after a feed, the bytes of the part that it took, the bytes of the text in use, and what is left to do.
-#[derive(Drop)]
+#[derive(Clone, Copy)]
 pub struct Fed {
     pub reader: Reader,
     pub used: usize,

@@ -15,7 +15,7 @@ pub const FLAGS: usize = 2096;
 pub const OUT: usize = 96;
 
 // The open record: the records before it, and its letters (16,385 for any number above 16,384).
-#[derive(Drop)]
+#[derive(Clone, Copy)]
 pub struct Record {
     pub number: u64,
     pub count: usize,
@@ -24,7 +24,7 @@ pub struct Record {
 // Where the bytes read so far end: before any header, in a header line after so many records, in a record at the start of
 // a line or within one, or after the report: letters came before any header, or a feed has written the last lines. `Held` says that
 // a CR is the last of these bytes, and is not yet counted: it is a letter only if a byte other than LF follows.
-#[derive(Drop)]
+#[derive(Clone, Copy)]
 pub enum Reader {
     Start,
     StartHeld,
@@ -36,7 +36,7 @@ pub enum Reader {
 }
 
 // The reader after a step, the bytes of the part that it took, and those that it wrote.
-#[derive(Drop)]
+#[derive(Clone, Copy)]
 pub struct Stepped {
     pub reader: Reader,
     pub used: usize,

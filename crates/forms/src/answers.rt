@@ -3,14 +3,14 @@ use codes::refusals::Refusal;
 use codes::units::{Bytes, Chars};
 
 // The bytes written.
-#[derive(Drop)]
+#[derive(Clone, Copy)]
 pub enum Wrote {
     Is(Bytes),
     Refused(Refusal),
 }
 
 // The length of both stores.
-#[derive(Drop)]
+#[derive(Clone, Copy)]
 pub enum Restored {
     Is(Chars),
     Refused(Refusal),

@@ -2,7 +2,7 @@
 use codes::refusals::Refusal;
 use codes::units::Chars;
 
-#[derive(Drop)]
+#[derive(Clone, Copy)]
 pub enum Order {
     Less,
     Equal,
@@ -10,14 +10,14 @@ pub enum Order {
 }
 
 // The order, and the count of equal leading characters.
-#[derive(Drop)]
+#[derive(Clone, Copy)]
 pub enum Compared {
     Is(Order, Chars),
     Refused(Refusal),
 }
 
 // The least place of a pattern in a text.
-#[derive(Drop)]
+#[derive(Clone, Copy)]
 pub enum Found {
     At(Chars),
     Absent,
@@ -25,7 +25,7 @@ pub enum Found {
 }
 
 // The offset and the length of the part that comes first.
-#[derive(Drop)]
+#[derive(Clone, Copy)]
 pub enum Least {
     Is(Chars, Chars),
     Refused(Refusal),

@@ -1,5 +1,7 @@
 // FASTA from standard input, the table of its records to standard output. A read or a write that fails ends the run, and standard
 // error says which.
+#![tactic(auto)]
+
 ghost use Rattle.std.specs.Prelude.{◌≤◌, length};
 
 use fasta::feeds::{Fed, Then, feed, feed_end};

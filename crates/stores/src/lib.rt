@@ -1,4 +1,6 @@
 // Stores: a lent buffer and a length in characters; at width 2 in `bases`, at width 1 in `flags`.
+#![tactic(auto)]
+
 pub mod answers;
 pub mod bases;
 pub mod flags;

@@ -2,7 +2,7 @@
 use codes::refusals::{Outcome, Refusal};
 use codes::units::Chars;
 
-#[derive(Drop)]
+#[derive(Clone, Copy)]
 pub enum Shape {
     Is {
         lane: Chars,
@@ -13,21 +13,21 @@ pub enum Shape {
 }
 
 // The steps written, and the padding.
-#[derive(Drop)]
+#[derive(Clone, Copy)]
 pub enum Filled {
     Is { steps: usize, padding: Chars },
     Refused(Refusal),
 }
 
 // The eight lanes of a step; zeros where it is refused.
-#[derive(Drop)]
+#[derive(Clone, Copy)]
 pub struct Stepped {
     pub lanes: [u32; 8],
     pub outcome: Outcome,
 }
 
 // The same, with the lanes of one delay.
-#[derive(Drop)]
+#[derive(Clone, Copy)]
 pub struct SteppedOnce {
     pub lanes: [u32; 8],
     pub delayed: [u32; 8],
@@ -35,7 +35,7 @@ pub struct SteppedOnce {
 }
 
 // The same, with the lanes of two delays.
-#[derive(Drop)]
+#[derive(Clone, Copy)]
 pub struct SteppedTwice {
     pub lanes: [u32; 8],
     pub first: [u32; 8],

@@ -3,7 +3,7 @@ use codes::refusals::Outcome;
 
 // A file that is written: where the next entry of its index goes and where the index ends, where the next record goes, and how many
 // sequences are left.
-#[derive(Drop)]
+#[derive(Clone, Copy)]
 pub struct Writing {
     pub entry: usize,
     pub stop: usize,
@@ -12,7 +12,7 @@ pub struct Writing {
 }
 
 // The next state.
-#[derive(Drop)]
+#[derive(Clone, Copy)]
 pub struct Stepped {
     pub state: Writing,
     pub outcome: Outcome,

@@ -6,7 +6,7 @@ use cases::inner::{codes_cases, order_cases, print, views_cases};
 use libc::STDIN_FILENO;
 
 // How far a line has been read, and how much of each buffer is in use.
-#[derive(Drop)]
+#[derive(Clone, Copy)]
 struct Scan {
     count: usize,
     value: u64,

@@ -3,7 +3,7 @@ use codes::refusals::Outcome;
 use codes::units::Chars;
 
 // Bytes, offset and length held together. The bytes reach 48 beyond the characters.
-#[derive(Drop)]
+#[derive(Clone, Copy)]
 pub struct View<'a> {
     pub bytes: &'a [u8],
     pub offset: Chars,
@@ -11,7 +11,7 @@ pub struct View<'a> {
 }
 
 // A view, empty where the outcome is a refusal.
-#[derive(Drop)]
+#[derive(Clone, Copy)]
 pub struct Part<'a> {
     pub view: View<'a>,
     pub outcome: Outcome,

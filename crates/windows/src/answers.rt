@@ -2,14 +2,14 @@
 use codes::refusals::Outcome;
 
 // Eight lane counts and the step.
-#[derive(Drop)]
+#[derive(Clone, Copy)]
 pub struct Windows {
     pub counts: [u32; 8],
     pub step: usize,
 }
 
 // A step's answers, all 32 bits set or 0, and the state for the next.
-#[derive(Drop)]
+#[derive(Clone, Copy)]
 pub struct Ran {
     pub answers: [u32; 8],
     pub state: Windows,

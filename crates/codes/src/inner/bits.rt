@@ -14,7 +14,7 @@ pub fn smaller(m: usize, n: usize) -> usize
 }
 
 // A number of 128 bits.
-#[derive(Drop)]
+#[derive(Clone, Copy)]
 pub struct Pair {
     pub low: u64,
     pub high: u64,

@@ -16,7 +16,7 @@ use codes::refusals::{Outcome, Refusal};
 use codes::units::{Chars, TRAILING};
 
 // The offset and the length of a part, zeros where it is refused.
-#[derive(Drop)]
+#[derive(Clone, Copy)]
 pub struct Numbers {
     pub offset: Chars,
     pub len: Chars,

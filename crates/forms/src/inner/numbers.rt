@@ -6,7 +6,7 @@ ghost use Rattle.forms.specs.Numbers.{spelt, spelling, led, Fits};
 use codes::inner::bits::wide;
 
 // A number that was read, and how many bytes it took.
-#[derive(Drop)]
+#[derive(Clone, Copy)]
 pub enum Spelled {
     Is { value: u64, size: usize },
     Bad,

@@ -15,7 +15,7 @@ use codes::refusals::Refusal;
 use codes::units::Chars;
 
 // The length of a form that can be read, and where its base bytes begin.
-#[derive(Drop)]
+#[derive(Clone, Copy)]
 pub enum Checked {
     Is { n: usize, body: usize },
     Refused(Refusal),

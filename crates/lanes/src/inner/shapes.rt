@@ -12,7 +12,7 @@ use codes::units::Chars;
 // The most characters of a context or a delay.
 const MOST: usize = 0x8000_0000;
 
-#[derive(Drop)]
+#[derive(Clone, Copy)]
 pub struct Plan {
     pub lane: usize,
     pub padding: usize,

@@ -14,7 +14,7 @@ use codes::units::Chars;
 use fields::inner::loads::peek;
 
 // The order of two views, and the count of their equal leading characters.
-#[derive(Drop)]
+#[derive(Clone, Copy)]
 pub struct Comparison {
     pub order: Order,
     pub common: usize,

@@ -15,7 +15,7 @@ use codes::units::Chars;
 use fields::inner::parts::{Numbers, accepted_part, numbers_of};
 
 // Whether the second of two views comes first; not where one is refused.
-#[derive(Drop)]
+#[derive(Clone, Copy)]
 pub struct Choice {
     pub second: bool,
     pub outcome: Outcome,

@@ -14,7 +14,7 @@ use fields::inner::loads::load64;
 use fields::inner::writes::store64;
 
 // Where a view goes: behind `len` characters, from character `start` on; `count` characters from its own `offset` on.
-#[derive(Drop)]
+#[derive(Clone, Copy)]
 pub struct Place {
     pub len: usize,
     pub start: usize,

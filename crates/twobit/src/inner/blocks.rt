@@ -6,7 +6,7 @@ ghost use Rattle.twobit.specs.Reading.{block_count, block_at, blocks_at, blocks_
 use dna::inner::numbers::number_at;
 
 // A block: its first position, and the position behind it.
-#[derive(Drop)]
+#[derive(Clone, Copy)]
 pub(crate) struct Block {
     pub(crate) start: usize,
     pub(crate) end: usize,

@@ -10,14 +10,14 @@ use crate::inner::{HEADER, SIGNATURE, VERSION};
 use dna::inner::numbers::number_at;
 
 // The byte order, and how many sequences.
-#[derive(Drop)]
+#[derive(Clone, Copy)]
 pub enum Header {
     Is { big: bool, count: usize },
     Bad,
 }
 
 // The size of a name, the record's offset, and the byte behind the entry.
-#[derive(Drop)]
+#[derive(Clone, Copy)]
 pub enum Indexed {
     Is {
         size: usize,
@@ -28,7 +28,7 @@ pub enum Indexed {
 }
 
 // The byte behind a sound entry, and the offset of its record.
-#[derive(Drop)]
+#[derive(Clone, Copy)]
 pub enum Behind {
     Is { end: usize, offset: usize },
     Bad,

@@ -18,7 +18,7 @@ use codes::units::{Chars, TRAILING};
 use dna::inner::marks::mark_run;
 
 // A record that can be read: the byte order, the size, the number of N blocks and of mask blocks, where the packed bases begin.
-#[derive(Drop)]
+#[derive(Clone, Copy)]
 pub enum Ready {
     Is {
         big: bool,

@@ -10,14 +10,14 @@ use codes::units::Chars;
 use dna::inner::numbers::number_at;
 
 // How many blocks there are, and the byte behind them.
-#[derive(Drop)]
+#[derive(Clone, Copy)]
 pub enum Table {
     Is { count: usize, end: usize },
     Cut,
 }
 
 // The size of a sequence, the number of its N blocks and of its mask blocks, and where the latter and the packed bases begin.
-#[derive(Drop)]
+#[derive(Clone, Copy)]
 pub enum Parts {
     Is {
         size: usize,

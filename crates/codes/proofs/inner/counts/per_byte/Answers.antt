@@ -1,0 +1,6 @@
+-- The number itself. Assumes nothing.
+use mathlib.Core.Path.{◌∙◌}
+use Rattle.codes.proofs.inner.counts.per_byte.Goals as goal
+
+pub returns : goal.returns
+returns c = c.new.ensures ∙ c.eighth.ensures
