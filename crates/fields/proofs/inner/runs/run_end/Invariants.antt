@@ -1,0 +1,15 @@
+-- The invariant: the flags from p on up to the place reached are all v. Assumes nothing.
+use mathlib.Core.Path.{◌≡◌}
+use Prim.Native.Nat.{◌+◌, ◌-◌, ◌≤◌}
+use Rattle.codes.specs.Codes.{chars}
+use Rattle.fields.specs.Runs.{leading}
+use Rattle.fields.proofs.inner.runs.run_end.Reads as reads
+use Rattle.fields.proofs.inner.runs.run_end.Lts as lts
+use Rattle.fields.proofs.inner.loads.peek.Reads as peek-reads
+use Rattle.fields.proofs.inner.runs.run_end.Given as goal
+
+abbrev pub invariant-loop-at : goal.invariant-loop-at
+invariant-loop-at l = (l.at ≤ l.end) × (l.p + leading l.v (chars 1 l.bytes l.p (l.end - l.p)) ≡ l.at + leading l.v (chars 1 l.bytes l.at (l.end - l.at)))
+
+abbrev pub decreases-loop-at : goal.decreases-loop-at
+decreases-loop-at l = l.end - l.at

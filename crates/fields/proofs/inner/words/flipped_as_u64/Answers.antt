@@ -1,0 +1,38 @@
+-- The flip of the view's word, where it is not refused. Assumes nothing.
+use mathlib.Core.Path.{sym, ap₂, ◌∙◌, subst}
+use Prim.Native.Nat.{ℕ, ◌*◌, ◌≤◌}
+use lib.ListN.{length}
+use Rattle.codes.specs.Codes.{complement}
+use Rattle.codes.specs.Words.{flip}
+use Rattle.codes.proofs.CharLaws.{flip-chars}
+use Rattle.codes.proofs.OutcomeLaws.{answer_done, answer_refused}
+use Rattle.fields.specs.Fields.{flipped_as_u64}
+use Rattle.fields.proofs.LoadLaws.{Wordy, word-open}
+use Rattle.fields.proofs.inner.words.flipped_as_u64.Goals.{In-Done}
+use Rattle.fields.proofs.inner.words.flipped_as_u64.Goals as goal
+
+room : (c : In-Done) → let a = c.args in Wordy a.w (length a.bytes.now) a.offset.0 a.len.0 1 64
+room c = word-open _ _ _ _ 1 64 (sym c.word_outcome.ensures ∙ c.in-Done.is)
+
+pub view_word-x-requires : goal.view_word-x-requires
+view_word-x-requires c = record { width = c.requires.width; len_value = (room c).view; len_bound = (room c).fits }
+
+pub flip_low-requires : goal.flip_low-requires
+flip_low-requires c =
+    let t = c in
+    let s = t in
+    let e = sym c.count.ensures in record { width = s.requires.width; w_bound = (s.requires.w_bound, subst (λ (k : ℕ). 1 ≤ k) e (room (goal.at.flip_low-requires c).In-Done).low, subst (λ (k : ℕ). s.args.w * k ≤ 64) e (room (goal.at.flip_low-requires c).In-Done).fits) }
+
+pub returns-in-Refused : goal.returns-in-Refused
+unfolding flipped_as_u64
+returns-in-Refused c = answer_refused _ _ _ 0 (sym c.word_outcome.ensures ∙ c.in-Refused.is)
+
+pub returns-in-Done : goal.returns-in-Done
+unfolding flipped_as_u64
+returns-in-Done c =
+    let t = c in
+    let a = t.args in
+    answer_done _ _ _ 0 (sym t.word_outcome.ensures ∙ t.in-Done.is)
+    (c.flip_low.ensures
+    ∙ ap₂ (flip a.w (complement a.w)) c.count.ensures c.view_word-x.ensures
+    ∙ flip-chars a.w (complement a.w) a.bytes.now a.offset.0 a.len.0)

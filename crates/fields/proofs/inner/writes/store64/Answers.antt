@@ -1,0 +1,16 @@
+-- Bytes stored one after another are stored together. Assumes nothing.
+use mathlib.Core.List.{List}
+use mathlib.Core.Path.{ap, ◌∙◌}
+use Prim.Native.Nat.{ℕ, ◌+◌, ◌/◌, ◌^◌}
+use lib.Seq.{sets}
+use Rattle.codes.specs.Words.{chars_of}
+use Rattle.fields.proofs.WriteLaws.{sets_more}
+use Rattle.fields.proofs.inner.writes.store64.Goals as goal
+
+pub returns : goal.returns
+returns c =
+    let s = c in
+    let a = s.args in
+    c.store32-2.ensures
+    ∙ ap (λ (d : List ℕ). sets d (a.at + 4) (chars_of 8 4 (a.x / 2 ^ 32))) s.store32.ensures
+    ∙ sets_more a.out.now a.at 4 4 a.x
