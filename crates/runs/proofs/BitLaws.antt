@@ -23,13 +23,13 @@ bit x j = x / 2 ^ j % 2
 pub bit_lt : (x j : ℕ) → bit x j < 2
 bit_lt x j = mod-lt (x / 2 ^ j) (lit< tt)
 
-pub bit_and : (a b j : ℕ) → bit (bit_and a b) j ≡ min (bit a j) (bit b j)
-bit_and a b j =
+pub bit_and_lem : (a b j : ℕ) → bit (bit_and a b) j ≡ min (bit a j) (bit b j)
+bit_and_lem a b j =
     ap (λ (x : ℕ). x % 2) (and_shr a b j ∙ and_step (a / 2 ^ j) (b / 2 ^ j))
     ∙ digits_mod (bit_and (a / 2 ^ j / 2) (b / 2 ^ j / 2)) (omega (arith, bit_lt a j, bit_lt b j))
 
-pub bit_or : (a b j : ℕ) → bit (bit_or a b) j ≡ max (bit a j) (bit b j)
-bit_or a b j =
+pub bit_or_lem : (a b j : ℕ) → bit (bit_or a b) j ≡ max (bit a j) (bit b j)
+bit_or_lem a b j =
     ap (λ (x : ℕ). x % 2) (or_shr a b j ∙ or_step (a / 2 ^ j) (b / 2 ^ j))
     ∙ digits_mod (bit_or (a / 2 ^ j / 2) (b / 2 ^ j / 2)) (omega (arith, bit_lt a j, bit_lt b j))
 

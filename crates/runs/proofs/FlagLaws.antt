@@ -19,7 +19,7 @@ use Rattle.codes.proofs.WidthLaws.{below_or, width_1}
 use Rattle.codes.proofs.WordLaws.{Below, length-chars_of}
 use Rattle.fields.proofs.LoadLaws.{loaded_char}
 use Rattle.runs.specs.Bytes.{letters_word}
-use Rattle.runs.proofs.BitLaws.{bit, bit_or, bit_shr, bit_shl, bit_shl_low, bit_mod, bits_word, bits_lt}
+use Rattle.runs.proofs.BitLaws.{bit, bit_or_lem, bit_shr, bit_shl, bit_shl_low, bit_mod, bits_word, bits_lt}
 use Rattle.runs.proofs.SpliceLaws.{get_or-codes, codes_lt}
 
 -- 1 where bit 2 is set and bit 1 is clear, as in T and U
@@ -125,9 +125,9 @@ module _ (ls : List ℕ) where
 
       pub stacked_more : (y : ℕ) → Stacked k y → Stacked (k + 1) (bit_or y (v * 2 ^ k % 2 ^ 64))
       stacked_more y z j h = (
-        λ m. bit_or y x j ∙ below_or (j % 8) k (λ b. ap₂ max ((z j h).0 b) (beside j h (λ q. omega arith)) ∙ max-zero (flag_at j))
+        λ m. bit_or_lem y x j ∙ below_or (j % 8) k (λ b. ap₂ max ((z j h).0 b) (beside j h (λ q. omega arith)) ∙ max-zero (flag_at j))
             (λ b. ap₂ max ((z j h).1 b) (level j h (omega arith)) ∙ zero-max (flag_at j)),
-        λ m. bit_or y x j ∙ ap₂ max ((z j h).1 (omega arith)) (beside j h (λ q. omega arith)),
+        λ m. bit_or_lem y x j ∙ ap₂ max ((z j h).1 (omega arith)) (beside j h (λ q. omega arith)),
       )
         where
           x : ℕ

@@ -11,7 +11,7 @@ use lib.Dec.{eqb}
 use Rattle.codes.specs.Codes.{pick, tab}
 use Rattle.codes.proofs.WidthLaws.{below_or}
 use Rattle.codes.proofs.TabLaws.{tab-at}
-use Rattle.runs.proofs.BitLaws.{bit, bit_lt, bit_and, bit_or, bit_shr, bit_shl, bit_shl_low, bit_mod}
+use Rattle.runs.proofs.BitLaws.{bit, bit_lt, bit_and_lem, bit_or_lem, bit_shr, bit_shl, bit_shl_low, bit_mod}
 
 -- a stage: the bits of `keep` stay, those of `low` go up by `by`, and what stands `by` above them comes down
 pub record Stage : Type 0 where
@@ -61,17 +61,17 @@ module _ (s : Stage) (x : ℕ) where
   up j =
       below_or j s.by
       (λ h. bit_shl_low (bit_and x s.low) s.by j h ∙ sym (ap (min (bit x (j - s.by))) (bit_shl_low s.low s.by j h) ∙ min-zero (bit x (j - s.by))))
-      (λ h. bit_shl (bit_and x s.low) s.by j h ∙ bit_and x s.low (j - s.by) ∙ ap (min (bit x (j - s.by))) (sym (bit_shl s.low s.by j h)))
+      (λ h. bit_shl (bit_and x s.low) s.by j h ∙ bit_and_lem x s.low (j - s.by) ∙ ap (min (bit x (j - s.by))) (sym (bit_shl s.low s.by j h)))
 
   -- a stage that takes each bit of a word from one within it, which is tested
   swap_bit : tab 64 (λ j. from s j / 64) ≡ tab 64 (λ j. 0) → (j : ℕ) → j < 64 → (from s j < 64) × (bit (swap s x) j ≡ bit x (from s j))
   swap_bit t j h =
       let l : from s j < 64 = omega (arith, tab-at 64 (λ j. from s j / 64) (λ j. 0) t j h) in (
         l,
-        bit_or (bit_or (bit_and x s.keep) (bit_and x s.low * 2 ^ s.by % 2 ^ 64)) (bit_and (x / 2 ^ s.by) s.low) j
+        bit_or_lem (bit_or (bit_and x s.keep) (bit_and x s.low * 2 ^ s.by % 2 ^ 64)) (bit_and (x / 2 ^ s.by) s.low) j
             ∙ ap₂ max
-            (bit_or (bit_and x s.keep) (bit_and x s.low * 2 ^ s.by % 2 ^ 64) j ∙ ap₂ max (bit_and x s.keep j) (bit_mod (bit_and x s.low * 2 ^ s.by) 64 j h ∙ up j))
-            (bit_and (x / 2 ^ s.by) s.low j ∙ ap (λ (y : ℕ). min y (bit s.low j)) (bit_shr x s.by j))
+            (bit_or_lem (bit_and x s.keep) (bit_and x s.low * 2 ^ s.by % 2 ^ 64) j ∙ ap₂ max (bit_and_lem x s.keep j) (bit_mod (bit_and x s.low * 2 ^ s.by) 64 j h ∙ up j))
+            (bit_and_lem (x / 2 ^ s.by) s.low j ∙ ap (λ (y : ℕ). min y (bit s.low j)) (bit_shr x s.by j))
             ∙ chosen (bit x) (bit_lt x) (bit s.keep j) (bit (s.low * 2 ^ s.by) j) (bit s.low j) j (j - s.by) (s.by + j)
             (bit_lt s.keep j) (bit_lt (s.low * 2 ^ s.by) j) (bit_lt s.low j) l,
       )
