@@ -1,12 +1,6 @@
 pub mod PartLaws
-pub mod Held
-pub mod KeptCall
-pub mod MakeWalk
-pub mod GetWalk
-pub mod SliceWalk
-pub mod NormalWalk
 pub mod SliceLaws
-pub mod ReadWalk
+pub mod ReadLaws
 pub mod Viewed
 pub mod PartsViewed
 pub mod Decided

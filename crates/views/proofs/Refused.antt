@@ -52,7 +52,7 @@ use Rattle.views.proofs.flags.revcomp_as_u128.Reads as flags-revcomp-as-u128
 
 -- the empty part at the front of what was lent
 abbrev pub at_front : Bor (List ℕ) → Lent
-at_front s = record { span = record { place = s.ptr; bytes = [] }; offset = 0; len = 0 }
+at_front s = record { span = record { place = s.ref_ptr; bytes = [] }; offset = 0; len = 0 }
 
 pub bases_get_sliced_refused : Refuses 1 bases-get-sliced·kinds.ps bases-get-sliced·kinds.r bases-get-sliced.Post (λ κs. symbol_says) (λ κs a. (0, skip 6 tt))
 unfolding got_sliced
