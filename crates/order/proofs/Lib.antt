@@ -2,7 +2,6 @@ pub mod OrderLaws
 pub mod CommonLaws
 pub mod FindLaws
 pub mod LeastLaws
-pub mod LeastWalk
 pub mod Viewed
 pub mod AnswerLaws
 pub mod EqualIsZero
