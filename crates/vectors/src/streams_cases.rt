@@ -3,14 +3,16 @@ use cases::inner::numbers::{chars, number};
 use cases::inner::print;
 use streams::answers::Filled;
 use streams::{bases, flags};
+use std::io;
+use std::io::Write;
 
-pub(crate) fn run(call: u64, line: &[u64; 512], bytes: &[u8]) {
+pub(crate) fn run<W: Write>(to: &mut W, call: u64, line: &[u64; 512], bytes: &[u8]) -> io::Result<()> {
     match call {
-        60 => plain(line, bytes),
-        61 => delayed(line, bytes),
-        62 => delayed_2(line, bytes),
-        63 => windows(line, bytes),
-        _ => {}
+        60 => plain(to, line, bytes),
+        61 => delayed(to, line, bytes),
+        62 => delayed_2(to, line, bytes),
+        63 => windows(to, line, bytes),
+        _ => Ok(())
     }
 }
 
@@ -22,11 +24,11 @@ fn written(f: Filled) -> usize {
     }
 }
 
-fn plain(line: &[u64; 512], bytes: &[u8]) {
+fn plain<W: Write>(to: &mut W, line: &[u64; 512], bytes: &[u8]) -> io::Result<()> {
     let mut out = [0u32; 512];
     let filled = fill(line, bytes, &mut out);
-    print::filled(filled);
-    print::entries(&out, written(filled));
+    print::filled(to, filled)?;
+    print::entries(to, &out, written(filled))
 }
 
 fn fill(line: &[u64; 512], bytes: &[u8], out: &mut [u32; 512]) -> Filled {
@@ -41,14 +43,14 @@ fn fill(line: &[u64; 512], bytes: &[u8], out: &mut [u32; 512]) -> Filled {
     }
 }
 
-fn delayed(line: &[u64; 512], bytes: &[u8]) {
+fn delayed<W: Write>(to: &mut W, line: &[u64; 512], bytes: &[u8]) -> io::Result<()> {
     let mut out = [0u32; 512];
     let mut late = [0u32; 512];
     let filled = fill_delayed(line, bytes, &mut out, &mut late);
     let n = written(filled);
-    print::filled(filled);
-    print::entries(&out, n);
-    print::entries(&late, n);
+    print::filled(to, filled)?;
+    print::entries(to, &out, n)?;
+    print::entries(to, &late, n)
 }
 
 fn fill_delayed(
@@ -69,16 +71,16 @@ fn fill_delayed(
     }
 }
 
-fn delayed_2(line: &[u64; 512], bytes: &[u8]) {
+fn delayed_2<W: Write>(to: &mut W, line: &[u64; 512], bytes: &[u8]) -> io::Result<()> {
     let mut out = [0u32; 512];
     let mut late = [0u32; 512];
     let mut later = [0u32; 512];
     let filled = fill_delayed_2(line, bytes, &mut out, &mut late, &mut later);
     let n = written(filled);
-    print::filled(filled);
-    print::entries(&out, n);
-    print::entries(&late, n);
-    print::entries(&later, n);
+    print::filled(to, filled)?;
+    print::entries(to, &out, n)?;
+    print::entries(to, &late, n)?;
+    print::entries(to, &later, n)
 }
 
 fn fill_delayed_2(
@@ -101,7 +103,7 @@ fn fill_delayed_2(
     }
 }
 
-fn windows(line: &[u64; 512], bytes: &[u8]) {
+fn windows<W: Write>(to: &mut W, line: &[u64; 512], bytes: &[u8]) -> io::Result<()> {
     let mut out = [0u32; 512];
     let o = chars(line, 1);
     let n = chars(line, 2);
@@ -109,6 +111,6 @@ fn windows(line: &[u64; 512], bytes: &[u8]) {
     let k = chars(line, 4);
     let skip = number(line, 5);
     let filled = windows::flags::fill_windows(bytes, o, n, c, k, skip, &mut out);
-    print::filled(filled);
-    print::entries(&out, written(filled));
+    print::filled(to, filled)?;
+    print::entries(to, &out, written(filled))
 }

@@ -3,77 +3,104 @@ use crate::inner::numbers::chars;
 use crate::inner::print;
 use codes::units::Chars;
 use fields::inner::parts::get_at;
+use std::io;
+use std::io::Write;
 use views::{bases, flags};
 
-pub fn run(call: u64, line: &[u64; 512], bytes: &[u8], out: &mut [u8]) {
+pub fn run<W: Write>(
+    to: &mut W,
+    call: u64,
+    line: &[u64; 512],
+    bytes: &[u8],
+    out: &mut [u8],
+) -> io::Result<()> {
     match call {
-        38 => reverse(line, bytes, out),
-        39 => letters(line, bytes, out),
-        _ => read(call, line, bytes),
+        38 => reverse(to, line, bytes, out),
+        39 => letters(to, line, bytes, out),
+        _ => read(to, call, line, bytes),
     }
 }
 
-fn reverse(line: &[u64; 512], bytes: &[u8], out: &mut [u8]) {
+fn reverse<W: Write>(
+    to: &mut W,
+    line: &[u64; 512],
+    bytes: &[u8],
+    out: &mut [u8],
+) -> io::Result<()> {
     let o = chars(line, 2);
     let n = chars(line, 3);
     if line[1] == 2 {
-        print::outcome(writes::bases::to_revcomp(bytes, o, n, out));
-        print::bytes(out);
+        print::outcome(to, writes::bases::to_revcomp(bytes, o, n, out))?;
+        print::bytes(to, out)
     } else {
-        print::outcome(writes::flags::to_revcomp(bytes, o, n, out));
-        print::bytes(out);
+        print::outcome(to, writes::flags::to_revcomp(bytes, o, n, out))?;
+        print::bytes(to, out)
     }
 }
 
-fn letters(line: &[u64; 512], bytes: &[u8], out: &mut [u8]) {
-    print::outcome(writes::bases::unpack(bytes, chars(line, 1), chars(line, 2), out));
-    print::bytes(out);
+fn letters<W: Write>(
+    to: &mut W,
+    line: &[u64; 512],
+    bytes: &[u8],
+    out: &mut [u8],
+) -> io::Result<()> {
+    print::outcome(
+        to,
+        writes::bases::unpack(bytes, chars(line, 1), chars(line, 2), out),
+    )?;
+    print::bytes(to, out)
 }
 
-fn read(call: u64, line: &[u64; 512], bytes: &[u8]) {
+fn read<W: Write>(to: &mut W, call: u64, line: &[u64; 512], bytes: &[u8]) -> io::Result<()> {
     let o = chars(line, 2);
     let n = chars(line, 3);
     if line[1] == 2 {
-        of_bases(call, line, bytes, o, n);
+        of_bases(to, call, line, bytes, o, n)
     } else {
-        of_flags(call, line, bytes, o, n);
+        of_flags(to, call, line, bytes, o, n)
     }
 }
 
-fn of_bases(call: u64, line: &[u64; 512], bytes: &[u8], o: Chars, n: Chars) {
+fn of_bases<W: Write>(
+    to: &mut W,
+    call: u64,
+    line: &[u64; 512],
+    bytes: &[u8],
+    o: Chars,
+    n: Chars,
+) -> io::Result<()> {
     match call {
-        31 => print::symbol(get_at(2, bytes, o, n, chars(line, 4))),
-        32 => print::symbol(bases::get_sliced(
-            bytes,
-            o,
-            n,
-            chars(line, 4),
-            chars(line, 5),
-            chars(line, 6),
-        )),
-        34 => print::word(bases::as_u64(bytes, o, n)),
-        35 => print::word128(bases::as_u128(bytes, o, n)),
-        36 => print::word(bases::revcomp_as_u64(bytes, o, n)),
-        37 => print::word128(bases::revcomp_as_u128(bytes, o, n)),
-        _ => {}
+        31 => print::symbol(to, get_at(2, bytes, o, n, chars(line, 4))),
+        32 => print::symbol(
+            to,
+            bases::get_sliced(bytes, o, n, chars(line, 4), chars(line, 5), chars(line, 6)),
+        ),
+        34 => print::word(to, bases::as_u64(bytes, o, n)),
+        35 => print::word128(to, bases::as_u128(bytes, o, n)),
+        36 => print::word(to, bases::revcomp_as_u64(bytes, o, n)),
+        37 => print::word128(to, bases::revcomp_as_u128(bytes, o, n)),
+        _ => Ok(())
     }
 }
 
-fn of_flags(call: u64, line: &[u64; 512], bytes: &[u8], o: Chars, n: Chars) {
+fn of_flags<W: Write>(
+    to: &mut W,
+    call: u64,
+    line: &[u64; 512],
+    bytes: &[u8],
+    o: Chars,
+    n: Chars,
+) -> io::Result<()> {
     match call {
-        31 => print::symbol(get_at(1, bytes, o, n, chars(line, 4))),
-        32 => print::symbol(flags::get_sliced(
-            bytes,
-            o,
-            n,
-            chars(line, 4),
-            chars(line, 5),
-            chars(line, 6),
-        )),
-        34 => print::word(flags::as_u64(bytes, o, n)),
-        35 => print::word128(flags::as_u128(bytes, o, n)),
-        36 => print::word(flags::revcomp_as_u64(bytes, o, n)),
-        37 => print::word128(flags::revcomp_as_u128(bytes, o, n)),
-        _ => {}
+        31 => print::symbol(to, get_at(1, bytes, o, n, chars(line, 4))),
+        32 => print::symbol(
+            to,
+            flags::get_sliced(bytes, o, n, chars(line, 4), chars(line, 5), chars(line, 6)),
+        ),
+        34 => print::word(to, flags::as_u64(bytes, o, n)),
+        35 => print::word128(to, flags::as_u128(bytes, o, n)),
+        36 => print::word(to, flags::revcomp_as_u64(bytes, o, n)),
+        37 => print::word128(to, flags::revcomp_as_u128(bytes, o, n)),
+        _ => Ok(())
     }
 }
