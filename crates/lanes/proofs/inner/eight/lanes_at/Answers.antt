@@ -1,8 +1,7 @@
 use mathlib.Core.Path.{refl}
-use Prim.Native.Nat.{◌-◌}
 use native.Mathlib.Omega.{arith}
 use Rattle.codes.proofs.MadeLaws.{made_none, made_more, made-to, made_all}
-use Rattle.lanes.specs.Lanes.{lane_char, lanes}
+use Rattle.lanes.specs.Lanes.{lanes}
 use Rattle.lanes.proofs.inner.eight.lanes_at.Goals as goal
 
 pub loop-l-init : goal.loop-l-init

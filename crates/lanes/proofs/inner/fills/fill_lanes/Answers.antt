@@ -56,7 +56,6 @@ overflow_sub-steps c = omega arith
 
 -- how many steps the turn has
 module _ (c : After-smaller-count) where
-
   abbrev turn : ℕ
   turn = 64 / c.args.w
 
@@ -96,10 +95,10 @@ loop-j-preserved c =
     let o = k.loop-j in
     let a = k.args in
     let words = k.lane_words-words in
-    let h = late (goal.at.loop-j-preserved c).After-slice_known-2-1 o.j o.inv.0 (omega arith) in (
+    let h = late (goal.at.loop-j-preserved c).After-slice_known-2-1 o.j o.invariant.0 (omega arith) in (
       omega arith,
       omega (arith, count_right (goal.at.loop-j-preserved c).After-smaller-count),
-      filled_more a.w (cs (goal.at.loop-j-preserved c).After-slice_known-2-1) a.n a.d o.j k.smaller-count.result words.result h (count_left (goal.at.loop-j-preserved c).After-smaller-count) words.ensures o.inv.2 c.write_turn.ensures o.inv.0,
+      filled_more a.w (cs (goal.at.loop-j-preserved c).After-slice_known-2-1) a.n a.d o.j k.smaller-count.result words.result h (count_left (goal.at.loop-j-preserved c).After-smaller-count) words.ensures o.invariant.2 c.write_turn.ensures o.invariant.0,
     )
 
 pub shape_of-out : goal.shape_of-out

@@ -40,7 +40,6 @@ pub returns-in-Refused : goal.returns-in-Refused
 returns-in-Refused c =
     let k = c in
     let s = k in
-    
     sym (first_refused (tests (goal.at.returns-in-Refused c).Start) (shape (goal.at.returns-in-Refused c).Start ∷ delays (goal.at.returns-in-Refused c).Start ∷ []) c.in-Refused.refusal (sym k.view_outcome.ensures ∙ c.in-Refused.is))
 
 pub returns-else-bad_delays : goal.returns-else-bad_delays

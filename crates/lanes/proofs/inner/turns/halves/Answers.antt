@@ -1,5 +1,5 @@
 use mathlib.Core.Path.{◌≡◌, refl, ◌∙◌}
-use Prim.Native.Nat.{ℕ, ◌-◌, ◌/◌, ◌%◌, ◌^◌}
+use Prim.Native.Nat.{ℕ, ◌/◌, ◌%◌, ◌^◌}
 use native.Mathlib.Omega.{arith}
 use lib.ListN.{get_or, length-set}
 use Rattle.codes.proofs.MadeLaws.{each_more}
@@ -34,7 +34,7 @@ loop-l-preserved c =
     let l = c.loop-l in
     let a = c.args in
     let x = c.low_half.result in
-    let is : ℕ → ℕ → Type 0 = λ m y. y ≡ get_or a.t1 m 0 / 2 ^ a.s % 2 ^ 32 in
+    let is : ℕ → ℕ → Type 0 = λ m y. y ≡ get_or a.words m 0 / 2 ^ a.s % 2 ^ 32 in
     (omega arith, length-set l.out l.l x ∙ l.invariant.1, each_more is 0 l.l x l.out (omega (arith, l.invariant.1)) l.invariant.2 c.low_half.ensures)
 
 pub returns : goal.returns

@@ -1,5 +1,5 @@
 use mathlib.Core.Path.{◌≡◌, sym, ap₂, ◌∙◌}
-use Prim.Native.Nat.{ℕ, ◌-◌, ◌*◌, ◌/◌, ◌%◌, ◌^◌}
+use Prim.Native.Nat.{ℕ, ◌*◌, ◌/◌, ◌%◌, ◌^◌}
 use native.Mathlib.Nat.{add-sub_cancel_left, one-mul}
 use native.Mathlib.Omega.{arith}
 use lib.Dec.{lit<}
@@ -57,7 +57,7 @@ loop-l-preserved c =
     let l = c.loop-l in
     let s = c in
     let a = s.args in
-    let v = ap₂ (λ (m p : ℕ). get_or a.t2 m 0 / 2 ^ a.s % p) (sym (add-sub_cancel_left a.e l.l)) (one s.requires.width) in
+    let v = ap₂ (λ (m p : ℕ). get_or a.part m 0 / 2 ^ a.s % p) (sym (add-sub_cancel_left a.e l.l)) (one s.requires.width) in
     (omega arith, made-to (made_more l.invariant.1 (omega arith) (omega arith) v) (omega arith))
 
 pub shape_of-out : goal.shape_of-out
