@@ -2,12 +2,8 @@
 use mathlib.Core.Path.{refl}
 use Rattle.writes.specs.Flips.{flips}
 use Rattle.writes.proofs.TableLaws.{table-right}
-use Rattle.writes.proofs.inner.tables.base_flips.Statement.{statement}
-use Rattle.writes.proofs.inner.tables.base_flips.Tie as tie
+use Rattle.writes.proofs.inner.tables.base_flips.Goals as goal
 
-returns : tie.Need-returns
+pub returns : goal.returns
 unfolding flips
 returns c = table-right 2 refl
-
-pub base_flips_spec : {M : Type 1} → statement M
-base_flips_spec = tie.close (tie.spec returns)
