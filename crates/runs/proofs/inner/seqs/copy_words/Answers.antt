@@ -76,7 +76,7 @@ module _ (c : After-store64-2) where
       let l = c.loop-j in
       subst (Made (over a.view.now a.lead a.from) a.from a.to a.buffer.now) (sym c.store64-2.ensures)
       (made-to
-      (made_word a.view.now (view_bytes (goal.at.After-store64-2 c).At-loop-j) a.from a.lead l.j (a.to - 8) c.load64-2.result l.inv.3
+      (made_word a.view.now (view_bytes (goal.at.After-store64-2 c).At-loop-j) a.from a.lead l.j (a.to - 8) c.load64-2.result l.invariant.3
       (omega arith) (omega arith) (omega arith) (omega arith) c.load64-2.ensures)
       (omega arith))
 

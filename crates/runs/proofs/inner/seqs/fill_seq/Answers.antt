@@ -18,7 +18,6 @@ use Rattle.runs.proofs.inner.seqs.fill_seq.Goals as goal
 
 -- what is known once the bytes are
 module _ (c : After-count-last) where
-
   abbrev w : ℕ
   w = c.args.w
 

@@ -66,8 +66,8 @@ module _ (c : After-gap_byte) where
 
 -- and where the last byte starts
 module _ (c : After-count-2) where
-  abbrev t : tie.Start
-  t = c
+  abbrev t : Start
+  t = (goal.at.After-count-2 c).Start
 
   starts_is : c.count-2.result ≡ (t.args.last - 1) * per (w t)
   starts_is = c.count-2.ensures ∙ c.chars_in.ensures ∙ ap (λ (x : ℕ). x * per (w t)) c.new.ensures

@@ -1,5 +1,4 @@
 use mathlib.Core.Path.{ap, ◌∙◌}
-use Prim.Native.Nat.{◌-◌}
 use native.Mathlib.Omega.{arith}
 use Rattle.codes.proofs.MadeLaws.{made_none, made_more, made-to}
 use Rattle.runs.specs.Bytes.{letters_word}

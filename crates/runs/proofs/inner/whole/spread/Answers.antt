@@ -1,5 +1,4 @@
 use mathlib.Core.Path.{refl}
-use Prim.Native.Nat.{◌-◌}
 use native.Mathlib.Omega.{arith}
 use Rattle.codes.proofs.MadeLaws.{made_none, made_more, made-to, made_all}
 use Rattle.runs.proofs.inner.whole.spread.Goals as goal

@@ -11,7 +11,6 @@ use Rattle.runs.proofs.inner.writes.fill_few.Goals as goal
 
 -- what is known once the bytes are
 module _ (c : After-count-last) where
-
   abbrev W : IsWidth c.args.w
   W = c.requires.width
 

@@ -13,22 +13,19 @@ use Rattle.runs.specs.Bytes.{anew}
 use Rattle.runs.proofs.FreshLaws.{made-three, made-whole}
 use Rattle.runs.proofs.LetterLaws.{made-first, made-last, first_next, first_behind}
 use Rattle.runs.proofs.RoomLaws.{div-up, up-part, up-full}
-use Rattle.runs.proofs.inner.writes.fill_many.Goals.{After-count, After-count-r, After-whole_run}
+use Rattle.runs.proofs.inner.writes.fill_many.Goals.{After-count, After-count-r, After-whole_run, Start}
 use Rattle.runs.proofs.inner.writes.fill_many.Goals as goal
 
 -- what is known once the bytes are
 module _ (c : After-count-r) where
-
-
-
-  abbrev s : tie.Start
-  s = c
+  abbrev s : Start
+  s = (goal.at.After-count-r c).Start
 
   abbrev w : ℕ
   w = s.args.w
 
   abbrev W : IsWidth w
-  W = s.pre.0
+  W = s.requires.width
 
   abbrev end : ℕ
   end = s.args.at + length s.args.letters.now
@@ -40,7 +37,7 @@ module _ (c : After-count-r) where
   to = c.count-to.result
 
   eight : 8 ≤ length s.args.letters.now
-  eight = s.pre.1.0.1
+  eight = s.requires.w_bound.1
 
   bytes : (j : ℕ) → get_or s.args.buffer.now j 0 < 256
   bytes j = (c.slice_known-1.given j).fits
@@ -61,10 +58,10 @@ module _ (c : After-count-r) where
   few = omega (arith, k_is, mod-lt s.args.at (per_pos W))
 
   room : up w end ≤ length s.args.buffer.now
-  room = s.pre.1.1.1.0
+  room = s.requires.letters_in_bounds
 
   stops : end ≤ s.args.stop
-  stops = s.pre.1.1.1.1.0
+  stops = s.requires.letters_bound.0
 
   next : b + 1 ≤ to
   next = omega (arith, b_is, to_is, first_next W s.args.at (length s.args.letters.now) eight)
@@ -86,17 +83,16 @@ module _ (c : After-count-r) where
   last_is h = up-part W end (omega (arith, r_is)) ∙ ap (λ (x : ℕ). x + 1) (sym to_is)
 
   stop_next : 0 < c.count-r.result → s.args.stop ≤ (to + 1) * per w
-  stop_next h = subst (λ (x : ℕ). s.args.stop ≤ x * per w) (last_is h) s.pre.1.1.1.1.1
+  stop_next h = subst (λ (x : ℕ). s.args.stop ≤ x * per w) (last_is h) s.requires.letters_bound.1
 
   -- where none do
   stop_full : c.count-r.result ≡ 0 → s.args.stop ≤ to * per w
-  stop_full h = subst (λ (x : ℕ). s.args.stop ≤ x * per w) (up-full W end (sym r_is ∙ h) ∙ sym to_is) s.pre.1.1.1.1.1
+  stop_full h = subst (λ (x : ℕ). s.args.stop ≤ x * per w) (up-full W end (sym r_is ∙ h) ∙ sym to_is) s.requires.letters_bound.1
 
 -- the first byte's run
 module _ (c : After-whole_run) where
-
-  abbrev o : tie.After-count4
-  o = c
+  abbrev o : After-count-r
+  o = (goal.at.After-whole_run c).After-count-r
 
   first_run : Made (anew (w o) (s o).args.buffer.now (s o).args.at (map (code (w o)) (s o).args.letters.now) (s o).args.stop) (b o) (b o + 1)
       (s o).args.buffer.now c.join_above.new.buffer
@@ -119,7 +115,7 @@ starts_is c =
     c.count.ensures ∙ c.chars_in.ensures ∙ ap (λ (x : ℕ). x * per (w (o (goal.at.After-count c).After-whole_run))) c.new.ensures
 
 pub first_letters-requires : goal.first_letters-requires
-first_letters-requires c = let k = c in record { width = W (goal.at.first_letters-requires c).After-count-r; w_bound = ((s (goal.at.first_letters-requires c).After-count-r).requires.1.0.0, omega (arith, eight (goal.at.first_letters-requires c).After-count-r, per-le (W (goal.at.first_letters-requires c).After-count-r)), few (goal.at.first_letters-requires c).After-count-r) }
+first_letters-requires c = let k = c in record { width = W (goal.at.first_letters-requires c).After-count-r; w_bound = ((s (goal.at.first_letters-requires c).After-count-r).requires.w_bound.0, omega (arith, eight (goal.at.first_letters-requires c).After-count-r, per-le (W (goal.at.first_letters-requires c).After-count-r)), few (goal.at.first_letters-requires c).After-count-r) }
 
 pub join_above-requires : goal.join_above-requires
 join_above-requires c = let k = c in record { width = W (goal.at.join_above-requires c).After-count-r; b_in_bounds = (omega (arith, next (goal.at.join_above-requires c).After-count-r, to_last (goal.at.join_above-requires c).After-count-r, room (goal.at.join_above-requires c).After-count-r), few (goal.at.join_above-requires c).After-count-r) }
@@ -133,18 +129,18 @@ pub whole_run-requires : goal.whole_run-requires
 whole_run-requires c =
     let j = c in
     let k = j in
-    let e = j.join_above.ensures.long in record { width = W (goal.at.whole_run-requires c).After-count-r; w_bound = (s (goal.at.whole_run-requires c).After-count-r).requires.1.0.0; from_le_to = (next (goal.at.whole_run-requires c).After-count-r, omega (arith, to_last (goal.at.whole_run-requires c).After-count-r, room (goal.at.whole_run-requires c).After-count-r), omega (arith, (s (goal.at.whole_run-requires c).After-count-r).requires.1.1.0)); at_bound = (behind (goal.at.whole_run-requires c).After-count-r, to_end (goal.at.whole_run-requires c).After-count-r) }
+    let e = j.join_above.ensures.long in record { width = W (goal.at.whole_run-requires c).After-count-r; w_bound = (s (goal.at.whole_run-requires c).After-count-r).requires.w_bound.0; from_le_to = (next (goal.at.whole_run-requires c).After-count-r, omega (arith, to_last (goal.at.whole_run-requires c).After-count-r, room (goal.at.whole_run-requires c).After-count-r), omega (arith, (s (goal.at.whole_run-requires c).After-count-r).requires.buffer_len_bound)); at_bound = (behind (goal.at.whole_run-requires c).After-count-r, to_end (goal.at.whole_run-requires c).After-count-r) }
 
 pub chars_in-requires : goal.chars_in-requires
 chars_in-requires c =
-    let k = o (goal.at.chars_in-requires c).After-whole_run in record { width = W k; n_bound = omega (arith, c.new.ensures, to_last k, room k, (s k).pre.1.1.0) }
+    let k = o (goal.at.chars_in-requires c).After-whole_run in record { width = W k; n_bound = omega (arith, c.new.ensures, to_last k, room k, (s k).requires.buffer_len_bound) }
 
 pub overflow_sub-rest : goal.overflow_sub-rest
 overflow_sub-rest c = let k = o (goal.at.overflow_sub-rest c).After-whole_run in omega (arith, starts_is c, to_end k, stops k)
 
 pub last_letters-requires : goal.last_letters-requires
 last_letters-requires c =
-    let k = o (goal.at.last_letters-requires c).After-whole_run in record { width = W k; w_bound = ((s k).pre.1.0.0, omega (arith, eight k, per-le (W k)), omega (arith, r_is k, mod-lt (end k) (per_pos (W k)))) }
+    let k = o (goal.at.last_letters-requires c).After-whole_run in record { width = W k; w_bound = ((s k).requires.w_bound.0, omega (arith, eight k, per-le (W k)), omega (arith, r_is k, mod-lt (end k) (per_pos (W k)))) }
 
 pub join_below-requires : goal.join_below-requires
 join_below-requires c =

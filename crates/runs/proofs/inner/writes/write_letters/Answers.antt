@@ -56,7 +56,7 @@ pub overflow_add-last : goal.overflow_add-last
 overflow_add-last c = let k = c in omega (arith, last_is (goal.at.overflow_add-last c).After-count-last, room (goal.at.overflow_add-last c).After-count-last, small (goal.at.overflow_add-last c).After-count-last)
 
 pub zero_run-requires : goal.zero_run-requires
-zero_run-requires c = let k = c in (omega arith, omega (arith, last_is (goal.at.zero_run-requires c).After-count-last, room (goal.at.zero_run-requires c).After-count-last, c.fill_letters.auto.0))
+zero_run-requires c = let k = c in (omega arith, omega (arith, last_is (goal.at.zero_run-requires c).After-count-last, room (goal.at.zero_run-requires c).After-count-last, c.fill_letters.auto.buffer))
 
 pub returns : goal.returns
 returns c =
