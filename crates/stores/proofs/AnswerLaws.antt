@@ -8,9 +8,7 @@ use Rattle.codes.specs.declared.units.Chars.{Chars}
 use Rattle.codes.proofs.RefusalLaws.{Told, outcome_at, outcome_at_number}
 use Rattle.stores.specs.Answers.{pushed_says, kept_says}
 use Rattle.stores.specs.declared.answers.Pushed.{Pushed}
-use Rattle.stores.specs.declared.answers.Pushed.TheVariants as Pushed
 use Rattle.stores.specs.declared.answers.Kept.{Kept}
-use Rattle.stores.specs.declared.answers.Kept.TheVariants as Kept
 
 abbrev count : ℕ → Chars
 count n = record { 0 = n }

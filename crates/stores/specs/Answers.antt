@@ -4,9 +4,7 @@ use Rattle.std.specs.Prelude.{ℕ}
 use Rattle.codes.specs.Refusals.{Answer, answer}
 use Rattle.codes.specs.declared.refusals.Outcome.TheVariants.{Done, Refused}
 use Rattle.stores.specs.declared.answers.Pushed.{Pushed}
-use Rattle.stores.specs.declared.answers.Pushed.TheVariants as Pushed
 use Rattle.stores.specs.declared.answers.Kept.{Kept}
-use Rattle.stores.specs.declared.answers.Kept.TheVariants as Kept
 
 -- a push that is done leaves the length at its end
 abbrev pub pushed_says : Pushed → Answer (ℕ × ℕ × ℕ)

@@ -8,9 +8,7 @@ use Rattle.codes.specs.declared.units.Chars.{Chars}
 use Rattle.codes.proofs.RefusalLaws.{Told, outcome_at, outcome_at_number}
 use Rattle.streams.specs.Answers.{shape_says, filled_says}
 use Rattle.streams.specs.declared.answers.Shape.{Shape}
-use Rattle.streams.specs.declared.answers.Shape.TheVariants as Shape
 use Rattle.streams.specs.declared.answers.Filled.{Filled}
-use Rattle.streams.specs.declared.answers.Filled.TheVariants as Filled
 
 abbrev count : ℕ → Chars
 count n = record { 0 = n }

@@ -6,7 +6,7 @@ use Prim.Native.Nat.{ℕ, ◌*◌, min}
 use Rattle.codes.specs.Codes.{chars}
 use Rattle.codes.specs.Refusals.{first, answer}
 use Rattle.codes.specs.declared.refusals.Outcome.{Outcome}
-use Rattle.codes.specs.declared.refusals.Outcome.TheVariants.{Done, Refused}
+use Rattle.codes.specs.declared.refusals.Outcome.TheVariants.{Done}
 use Rattle.codes.specs.declared.refusals.Refusal.{Refusal}
 use Rattle.codes.specs.declared.units.Chars.{Chars}
 use Rattle.codes.proofs.OutcomeLaws.{gives_done, gives_refused}
@@ -14,7 +14,6 @@ use Rattle.streams.specs.Answers.{filled_says}
 use Rattle.lanes.specs.Lanes.{lane, padding, steps, filled, stream_tests}
 use Rattle.streams.specs.Streams.{fill_outcome, fill_answer, fill_after}
 use Rattle.streams.specs.declared.answers.Filled.{Filled}
-use Rattle.streams.specs.declared.answers.Filled.TheVariants as Filled
 use Rattle.lanes.proofs.LaneLaws.{stream_plain}
 use Rattle.streams.proofs.OpenLaws.{Rooms, fill_open, fill_least, filled-outcome, outcome_of}
 

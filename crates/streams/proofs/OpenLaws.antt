@@ -20,7 +20,6 @@ use Rattle.lanes.specs.Lanes.{padding, steps, stream_tests}
 use Rattle.streams.specs.Streams.{bad_step, room_tests, step_outcome, fill_outcome, fill_answer}
 use Rattle.streams.specs.Answers.{filled_says}
 use Rattle.streams.specs.declared.answers.Filled.{Filled}
-use Rattle.streams.specs.declared.answers.Filled.TheVariants as Filled
 use Rattle.lanes.proofs.LaneLaws.{Open, stream_open, stream_plain, Sized, stream_sizes}
 
 -- the sizes of a stream that is not refused

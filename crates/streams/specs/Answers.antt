@@ -4,9 +4,7 @@ use Rattle.std.specs.Prelude.{ℕ}
 use Rattle.codes.specs.Refusals.{Answer, answer}
 use Rattle.codes.specs.declared.refusals.Outcome.TheVariants.{Done, Refused}
 use Rattle.streams.specs.declared.answers.Shape.{Shape}
-use Rattle.streams.specs.declared.answers.Shape.TheVariants as Shape
 use Rattle.streams.specs.declared.answers.Filled.{Filled}
-use Rattle.streams.specs.declared.answers.Filled.TheVariants as Filled
 
 -- lane length, steps and padding
 abbrev pub shape_says : Shape → Answer (ℕ × ℕ × ℕ)

@@ -1,0 +1,80 @@
+-- The first half of each word, and then the second, which begins where the first ends. Assumes nothing.
+use mathlib.Core.List.{List}
+use mathlib.Core.Path.{◌≡◌, refl, sym, ap, ◌∙◌}
+use Prim.Native.Nat.{ℕ, ◌+◌, ◌-◌, ◌*◌, ◌/◌, ◌%◌, ◌^◌, ◌≤◌, ◌<◌, min}
+use native.Mathlib.Nat.{mul-zero, mul-add, mul-le-mul_left, mul-div-le, le_trans, min-le_left, min-le_right, le-min}
+use native.Mathlib.Omega.{arith}
+use lib.ListN.{get_or}
+use Rattle.codes.specs.Codes.{IsWidth}
+use Rattle.codes.proofs.MadeLaws.{made_as, made-join, made-to}
+use Rattle.codes.proofs.WidthLaws.{below_or, whole}
+use Rattle.lanes.proofs.TurnLaws.{turned-part}
+use Rattle.lanes.proofs.inner.turns.write_turn.Goals.{After-smaller-first}
+use Rattle.lanes.proofs.inner.turns.write_turn.Goals as goal
+
+-- the steps of the first half, and those behind it
+module _ (c : After-smaller-first) where
+  abbrev w : ℕ
+  w = c.args.w
+
+  abbrev count : ℕ
+  count = c.args.count
+
+  abbrev first : ℕ
+  first = c.smaller-first.result
+
+  W : IsWidth w
+  W = c.requires.width
+
+  first_is : first ≡ min count (32 / w)
+  first_is = c.smaller-first.ensures ∙ ap (min count) c.over_width.ensures
+
+  few : first ≤ count
+  few = omega (arith, first_is, min-le_left count (32 / w))
+
+  half : first ≤ 32 / w
+  half = omega (arith, first_is, min-le_right count (32 / w))
+
+  fits : w * first ≤ 32
+  fits = le_trans (mul-le-mul_left w half) (mul-div-le 32 w)
+
+  -- where there are more, the first half is whole
+  more : first < count → 32 ≡ w * first
+  more h = sym (ap (λ (k : ℕ). w * k) (below_or first (32 / w) (λ l. absurd (omega (arith, first_is, le-min h l))) (λ l. omega (arith, half))) ∙ whole W 4)
+
+  rest : w * (count - first) ≤ 32
+  rest =
+      below_or first count
+      (λ h.
+      let e : first + (count - first) ≡ count = omega arith in
+      omega (arith, more h, sym (mul-add w first (count - first)) ∙ ap (λ (k : ℕ). w * k) e, c.requires.count_bound.0))
+      (λ h. let e : count - first ≡ 0 = omega arith in omega (arith, ap (λ (k : ℕ). w * k) e ∙ mul-zero w))
+
+-- the halves of words, by what they are divided by
+parts_at : (words part : List ℕ) (m n : ℕ) → ((l : ℕ) → l < 8 → get_or part l 0 ≡ get_or words l 0 / m % 2 ^ 32) → m ≡ n → (l : ℕ) → l < 8
+    → get_or part l 0 ≡ get_or words l 0 / n % 2 ^ 32
+parts_at words part m n is e l h = is l h ∙ ap (λ (x : ℕ). get_or words l 0 / x % 2 ^ 32) e
+
+pub write_half-requires : goal.write_half-requires
+write_half-requires c = let k = c in record { width = W (goal.at.write_half-requires c).After-smaller-first; count_bound = (fits (goal.at.write_half-requires c).After-smaller-first, omega (arith, few (goal.at.write_half-requires c).After-smaller-first, k.requires.count_bound.1)) }
+
+pub write_half-requires-2 : goal.write_half-requires-2
+write_half-requires-2 c =
+    let h = c in
+    let k = h in record { width = W (goal.at.write_half-requires-2 c).After-smaller-first; count_bound = (rest (goal.at.write_half-requires-2 c).After-smaller-first, omega (arith, few (goal.at.write_half-requires-2 c).After-smaller-first, h.write_half.ensures.long, k.requires.count_bound.1)) }
+
+pub returns : goal.returns
+returns c =
+    let g = c in
+    let r = g in
+    let h = r in
+    let n = h in
+    let k = n in
+    let a = k.args in
+    let low = turned-part (W (goal.at.returns c).After-smaller-first) a.words n.halves.result 0 (first (goal.at.returns c).After-smaller-first) a.e 0 a.e (fits (goal.at.returns c).After-smaller-first) (sym (mul-zero (w (goal.at.returns c).After-smaller-first))) (omega arith) n.halves.ensures in
+    made-to
+    (made-join (made_as h.write_half.ensures low) g.write_half-2.ensures (omega arith) (omega arith)
+    (λ q f l _.
+    turned-part (W (goal.at.returns c).After-smaller-first) a.words r.halves-2.result (first (goal.at.returns c).After-smaller-first) (count (goal.at.returns c).After-smaller-first - first (goal.at.returns c).After-smaller-first) a.e (w (goal.at.returns c).After-smaller-first * first (goal.at.returns c).After-smaller-first) (a.e + 8 * first (goal.at.returns c).After-smaller-first) (rest (goal.at.returns c).After-smaller-first) refl refl
+    (parts_at a.words r.halves-2.result _ (2 ^ (w (goal.at.returns c).After-smaller-first * first (goal.at.returns c).After-smaller-first)) r.halves-2.ensures (omega (arith, ap (λ (s : ℕ). 2 ^ s) (more (goal.at.returns c).After-smaller-first (omega arith))))) q f l))
+    (omega (arith, few (goal.at.returns c).After-smaller-first))

@@ -1,0 +1,60 @@
+-- The zeros behind what was filled make it whole. Assumes nothing.
+use mathlib.Core.List.{List}
+use mathlib.Core.Path.{◌≡◌, sym, ap, ◌∙◌}
+use Prim.Native.Nat.{ℕ, ◌+◌, ◌*◌, ◌^◌, ◌≤◌}
+use native.Mathlib.Omega.{arith}
+use lib.ListN.{length}
+use Rattle.codes.specs.Codes.{IsWidth, per, up, trailing}
+use Rattle.codes.proofs.MadeLaws.{made_at}
+use Rattle.runs.specs.Bytes.{placed_chars}
+use Rattle.runs.specs.Runs.{spliced}
+use Rattle.runs.specs.declared.inner.seqs.Place.{Place}
+use Rattle.runs.proofs.RoomLaws.{room_chars}
+use Rattle.runs.proofs.SeqLaws.{seq_end}
+use Rattle.runs.proofs.WrittenLaws.{made-written}
+use Rattle.runs.proofs.inner.seqs.write_seq.Goals.{After-count-last}
+use Rattle.runs.proofs.inner.seqs.write_seq.Goals as goal
+
+-- what is known once the end is
+module _ (c : After-count-last) where
+  abbrev p : Place
+  p = c.args.p
+
+  abbrev W : IsWidth c.args.w
+  W = c.requires.width
+
+  abbrev end : ℕ
+  end = p.start + p.count
+
+  small : length c.args.buffer.now ≤ 2 ^ 28
+  small = c.requires.buffer_len_bound.0
+
+  room : up c.args.w end + trailing ≤ length c.args.buffer.now
+  room = c.requires.buffer_len_bound.1
+
+  last_is : c.count-last.result ≡ up c.args.w end
+  last_is = c.count-last.ensures ∙ c.bytes_for.ensures ∙ ap (up c.args.w) c.new.ensures
+
+pub overflow_add-p : goal.overflow_add-p
+overflow_add-p c =
+    let s = c in
+    let a = s.args in
+    omega (arith, room_chars s.requires.width (a.p.start + a.p.count) (length a.buffer.now) (omega (arith, s.requires.buffer_len_bound.1)) s.requires.buffer_len_bound.0)
+
+pub overflow_add-last : goal.overflow_add-last
+overflow_add-last c = let k = c in omega (arith, last_is (goal.at.overflow_add-last c).After-count-last, room (goal.at.overflow_add-last c).After-count-last, small (goal.at.overflow_add-last c).After-count-last)
+
+pub zero_run-requires : goal.zero_run-requires
+zero_run-requires c = let k = c in (omega arith, omega (arith, last_is (goal.at.zero_run-requires c).After-count-last, room (goal.at.zero_run-requires c).After-count-last, c.fill_seq.auto.buffer))
+
+pub returns : goal.returns
+returns c =
+    let z = c in
+    let f = z in
+    let k = f in
+    let a = k.args in
+    let v = p (goal.at.returns c).After-count-last in
+    let cs : List ℕ = placed_chars a.w v a.view.now in
+    let n : end (goal.at.returns c).After-count-last ≡ v.len + length cs = ap (λ (x : ℕ). x + v.count) k.requires.placed.starts ∙ sym (seq_end (W (goal.at.returns c).After-count-last) v.len a.view.now v.offset v.count) in
+    made-written (W (goal.at.returns c).After-count-last) a.buffer.now v.len cs (made_at trailing z.zero_run.ensures (last_is (goal.at.returns c).After-count-last ∙ ap (up a.w) n))
+    (f.fill_seq.ensures ∙ ap (λ (x : ℕ). spliced a.w a.buffer.now v.len cs (up a.w x * per a.w)) n)

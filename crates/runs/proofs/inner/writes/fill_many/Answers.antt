@@ -1,0 +1,171 @@
+-- The byte of `at`, the whole bytes and the byte of the end are one run, and all else stays. Assumes nothing.
+use mathlib.Core.List.{List, map}
+use mathlib.Core.Path.{◌≡◌, sym, ap, ◌∙◌, subst}
+use Prim.Native.Nat.{ℕ, ◌+◌, ◌-◌, ◌*◌, ◌/◌, ◌%◌, ◌≤◌, ◌<◌}
+use native.Mathlib.Nat.{le_refl, mod-lt, suc-mul, mul-le-mul_right, div-mul-le_self}
+use native.Mathlib.Omega.{arith}
+use lib.ListN.{length, get_or}
+use Rattle.codes.specs.Codes.{IsWidth, per, up, code}
+use Rattle.codes.specs.Made.{Made}
+use Rattle.codes.proofs.MadeLaws.{made_none}
+use Rattle.codes.proofs.WidthLaws.{per_pos, per-le}
+use Rattle.runs.specs.Bytes.{anew}
+use Rattle.runs.proofs.FreshLaws.{made-three, made-whole}
+use Rattle.runs.proofs.LetterLaws.{made-first, made-last, first_next, first_behind}
+use Rattle.runs.proofs.RoomLaws.{div-up, up-part, up-full}
+use Rattle.runs.proofs.inner.writes.fill_many.Goals.{After-count, After-count-r, After-whole_run, Start}
+use Rattle.runs.proofs.inner.writes.fill_many.Goals as goal
+
+-- what is known once the bytes are
+module _ (c : After-count-r) where
+  abbrev s : Start
+  s = (goal.at.After-count-r c).Start
+
+  abbrev w : ℕ
+  w = s.args.w
+
+  abbrev W : IsWidth w
+  W = s.requires.width
+
+  abbrev end : ℕ
+  end = s.args.at + length s.args.letters.now
+
+  abbrev b : ℕ
+  b = c.count-b.result
+
+  abbrev to : ℕ
+  to = c.count-to.result
+
+  eight : 8 ≤ length s.args.letters.now
+  eight = s.requires.w_bound.1
+
+  bytes : (j : ℕ) → get_or s.args.buffer.now j 0 < 256
+  bytes j = (c.slice_known-1.given j).fits
+
+  b_is : b ≡ s.args.at / per w
+  b_is = c.count-b.ensures ∙ c.byte_of.ensures ∙ ap (λ (x : ℕ). x / per w) c.new-start.ensures
+
+  k_is : c.count-k.result ≡ s.args.at % per w
+  k_is = c.count-k.ensures ∙ c.within_byte.ensures ∙ ap (λ (x : ℕ). x % per w) c.new-start.ensures
+
+  to_is : to ≡ end / per w
+  to_is = c.count-to.ensures ∙ c.byte_of-2.ensures ∙ ap (λ (x : ℕ). x / per w) c.new-end.ensures
+
+  r_is : c.count-r.result ≡ end % per w
+  r_is = c.count-r.ensures ∙ c.within_byte-2.ensures ∙ ap (λ (x : ℕ). x % per w) c.new-end.ensures
+
+  few : c.count-k.result ≤ per w
+  few = omega (arith, k_is, mod-lt s.args.at (per_pos W))
+
+  room : up w end ≤ length s.args.buffer.now
+  room = s.requires.letters_in_bounds
+
+  stops : end ≤ s.args.stop
+  stops = s.requires.letters_bound.0
+
+  next : b + 1 ≤ to
+  next = omega (arith, b_is, to_is, first_next W s.args.at (length s.args.letters.now) eight)
+
+  behind : s.args.at ≤ (b + 1) * per w
+  behind = subst (λ (x : ℕ). s.args.at ≤ (x + 1) * per w) (sym b_is) (first_behind W s.args.at)
+
+  next_to : (b + 1) * per w ≤ to * per w
+  next_to = mul-le-mul_right (per w) next
+
+  to_end : to * per w ≤ end
+  to_end = subst (λ (x : ℕ). x * per w ≤ end) (sym to_is) (div-mul-le_self end (per w))
+
+  to_last : to ≤ up w end
+  to_last = omega (arith, to_is, div-up W end end (le_refl end))
+
+  -- where letters stand in the byte of the end
+  last_is : 0 < c.count-r.result → up w end ≡ to + 1
+  last_is h = up-part W end (omega (arith, r_is)) ∙ ap (λ (x : ℕ). x + 1) (sym to_is)
+
+  stop_next : 0 < c.count-r.result → s.args.stop ≤ (to + 1) * per w
+  stop_next h = subst (λ (x : ℕ). s.args.stop ≤ x * per w) (last_is h) s.requires.letters_bound.1
+
+  -- where none do
+  stop_full : c.count-r.result ≡ 0 → s.args.stop ≤ to * per w
+  stop_full h = subst (λ (x : ℕ). s.args.stop ≤ x * per w) (up-full W end (sym r_is ∙ h) ∙ sym to_is) s.requires.letters_bound.1
+
+-- the first byte's run
+module _ (c : After-whole_run) where
+  abbrev o : After-count-r
+  o = (goal.at.After-whole_run c).After-count-r
+
+  first_run : Made (anew (w o) (s o).args.buffer.now (s o).args.at (map (code (w o)) (s o).args.letters.now) (s o).args.stop) (b o) (b o + 1)
+      (s o).args.buffer.now c.join_above.new.buffer
+  first_run =
+      made-first (W o) (s o).args.at (s o).args.letters.now (s o).args.stop (eight o) (k_is o) c.first_letters.ensures (b_is o)
+      (omega (arith, suc-mul (b o) (per (w o)), next_to o, to_end o, stops o)) (λ i. (c.slice_known-2-1.given i).fits) c.join_above.ensures
+
+  abbrev d : List ℕ
+  d = c.join_above.new.buffer
+
+  whole_run : Made (anew (w o) d (s o).args.at (map (code (w o)) (s o).args.letters.now) (s o).args.stop) (b o + 1) (to o) d c.whole_run.new.buffer
+  whole_run = made-whole (w o) (s o).args.letters.now (behind o) (to_end o) c.whole_run.ensures (omega (arith, to_end o, stops o))
+
+  long : length c.whole_run.new.buffer ≡ length (s o).args.buffer.now
+  long = c.whole_run.ensures.long ∙ c.join_above.ensures.long
+
+-- where the last byte starts
+starts_is : (c : After-count) → c.count.result ≡ to (o (goal.at.After-count c).After-whole_run) * per (w (o (goal.at.After-count c).After-whole_run))
+starts_is c =
+    c.count.ensures ∙ c.chars_in.ensures ∙ ap (λ (x : ℕ). x * per (w (o (goal.at.After-count c).After-whole_run))) c.new.ensures
+
+pub first_letters-requires : goal.first_letters-requires
+first_letters-requires c = let k = c in record { width = W (goal.at.first_letters-requires c).After-count-r; w_bound = ((s (goal.at.first_letters-requires c).After-count-r).requires.w_bound.0, omega (arith, eight (goal.at.first_letters-requires c).After-count-r, per-le (W (goal.at.first_letters-requires c).After-count-r)), few (goal.at.first_letters-requires c).After-count-r) }
+
+pub join_above-requires : goal.join_above-requires
+join_above-requires c = let k = c in record { width = W (goal.at.join_above-requires c).After-count-r; b_in_bounds = (omega (arith, next (goal.at.join_above-requires c).After-count-r, to_last (goal.at.join_above-requires c).After-count-r, room (goal.at.join_above-requires c).After-count-r), few (goal.at.join_above-requires c).After-count-r) }
+
+pub overflow_add-b : goal.overflow_add-b
+overflow_add-b c =
+    let k = c in
+    omega (arith, next (goal.at.overflow_add-b c).After-count-r)
+
+pub whole_run-requires : goal.whole_run-requires
+whole_run-requires c =
+    let j = c in
+    let k = j in
+    let e = j.join_above.ensures.long in record { width = W (goal.at.whole_run-requires c).After-count-r; w_bound = (s (goal.at.whole_run-requires c).After-count-r).requires.w_bound.0; from_le_to = (next (goal.at.whole_run-requires c).After-count-r, omega (arith, to_last (goal.at.whole_run-requires c).After-count-r, room (goal.at.whole_run-requires c).After-count-r), omega (arith, (s (goal.at.whole_run-requires c).After-count-r).requires.buffer_len_bound)); at_bound = (behind (goal.at.whole_run-requires c).After-count-r, to_end (goal.at.whole_run-requires c).After-count-r) }
+
+pub chars_in-requires : goal.chars_in-requires
+chars_in-requires c =
+    let k = o (goal.at.chars_in-requires c).After-whole_run in record { width = W k; n_bound = omega (arith, c.new.ensures, to_last k, room k, (s k).requires.buffer_len_bound) }
+
+pub overflow_sub-rest : goal.overflow_sub-rest
+overflow_sub-rest c = let k = o (goal.at.overflow_sub-rest c).After-whole_run in omega (arith, starts_is c, to_end k, stops k)
+
+pub last_letters-requires : goal.last_letters-requires
+last_letters-requires c =
+    let k = o (goal.at.last_letters-requires c).After-whole_run in record { width = W k; w_bound = ((s k).requires.w_bound.0, omega (arith, eight k, per-le (W k)), omega (arith, r_is k, mod-lt (end k) (per_pos (W k)))) }
+
+pub join_below-requires : goal.join_below-requires
+join_below-requires c =
+    let n = c in
+    let t = n in
+    let h = t in
+    let k = o (goal.at.join_below-requires c).After-whole_run in
+    let some = t.if-r-gt0.true in record { width = W k; b_in_bounds = (omega (arith, last_is k some, room k, long (goal.at.join_below-requires c).After-whole_run), omega (arith, starts_is (goal.at.join_below-requires c).After-count, stop_next k some, suc-mul (to k) (per (w k)))) }
+
+pub returns-then-r-gt0 : goal.returns-then-r-gt0
+returns-then-r-gt0 c =
+    let j = c in
+    let n = j in
+    let t = n in
+    let h = t in
+    let k = o (goal.at.returns-then-r-gt0 c).After-whole_run in
+    let some = t.if-r-gt0.true in
+    let last =
+    made-last (W k) (s k).args.at (s k).args.letters.now (s k).args.stop (eight k) (r_is k) some
+    j.last_letters.ensures (to_is k) (omega (arith, behind k, next_to k)) (stops k) (ap (λ (x : ℕ). (s k).args.stop - x) (starts_is (goal.at.returns-then-r-gt0 c).After-count))
+    (λ i. (c.slice_known-then-r-gt0-1.given i).fits) j.join_below.ensures in
+    made-three (W k) _ _ _ _ (bytes k) (first_run (goal.at.returns-then-r-gt0 c).After-whole_run) (whole_run (goal.at.returns-then-r-gt0 c).After-whole_run) last (b_is k) (omega arith) (next k) (omega arith) (stop_next k some)
+
+pub returns-else-r-gt0 : goal.returns-else-r-gt0
+returns-else-r-gt0 c =
+    let h = c in
+    let k = o (goal.at.returns-else-r-gt0 c).After-whole_run in
+    made-three (W k) _ _ _ _ (bytes k) (first_run (goal.at.returns-else-r-gt0 c).After-whole_run) (whole_run (goal.at.returns-else-r-gt0 c).After-whole_run) (made_none (le_refl (to k))) (b_is k) (omega arith) (next k) (le_refl (to k)) (stop_full k (omega (arith, c.if-r-gt0.false)))
