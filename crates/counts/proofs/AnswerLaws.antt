@@ -7,7 +7,6 @@ use Rattle.codes.specs.declared.refusals.Outcome.TheVariants.{Done, Refused}
 use Rattle.codes.proofs.RefusalLaws.{Told, outcome_at, outcome_at_number}
 use Rattle.counts.specs.Answers.{count_says}
 use Rattle.counts.specs.declared.answers.Count.{Count}
-use Rattle.counts.specs.declared.answers.Count.TheVariants as Count
 
 abbrev count_of : Outcome → ℕ → Count
 count_of Done n = Count.Is n

@@ -4,7 +4,6 @@ use Rattle.std.specs.Prelude.{ℕ}
 use Rattle.codes.specs.Refusals.{Answer, answer}
 use Rattle.codes.specs.declared.refusals.Outcome.TheVariants.{Done, Refused}
 use Rattle.counts.specs.declared.answers.Count.{Count}
-use Rattle.counts.specs.declared.answers.Count.TheVariants as Count
 
 abbrev pub count_says : Count → Answer ℕ
 count_says (Count.Is n) = answer Done n 0
