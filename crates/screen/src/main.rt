@@ -6,53 +6,65 @@ ghost use Rattle.std.specs.Prelude.{◌≤◌, length};
 
 use fasta::feeds::{Fed, Then, feed, feed_end};
 use fasta::reader::{BASES, FLAGS, Reader, start};
+use std::io;
+use std::io::{Read, Write};
 
-fn main() {
+fn main(rt: HostRuntime) -> io::Result<()> {
     let mut buffer = [0u8; 4096];
     let mut text = [0u8; 4096];
     let mut bases = [0u8; BASES];
     let mut flags = [0u8; FLAGS];
     let mut other = [0u8; BASES];
-    run(&mut buffer, &mut text, &mut bases, &mut flags, &mut other);
+    run(
+        &rt,
+        &mut buffer,
+        &mut text,
+        &mut bases,
+        &mut flags,
+        &mut other,
+    )
 }
 
-// Does what the last feed left to do, and feeds again. A proved loop has to end, and nothing says that the input does: the turns count
-// down from a number that no run uses up.
+// Does what the last feed left to do, and feeds again. A proved loop has to end, and nothing says that the input does: the turns are
+// counted, up to a number that no run uses up.
 fn run(
+    rt: &HostRuntime,
     buffer: &mut [u8],
     text: &mut [u8; 4096],
     bases: &mut [u8; BASES],
     flags: &mut [u8; FLAGS],
     other: &mut [u8; BASES],
-) {
+) -> io::Result<()> {
     let begun = start(text);
     let mut reader = begun.reader;
     let mut filled = begun.wrote;
     let mut then = Then::Read;
     let mut at: usize = 0;
     let mut n: usize = 0;
-    let mut turns = u64::MAX;
-    while 0 < turns {
+    for _ in 0..u64::MAX {
         match then {
             Then::Read => {
-                let got = libc::read(libc::STDIN_FILENO, buffer);
-                if got < 0 {
-                    os::fail(b"read");
-                    put(text, filled);
-                    return;
+                match rt.stdin().read(buffer) {
+                    Ok(got) => {
+                        at = 0;
+                        n = got;
+                    }
+                    Err(error) => {
+                        say(rt, "read", &error)?;
+                        put(rt, text, filled)?;
+                        return Ok(());
+                    }
                 }
-                at = 0;
-                n = io::count(got, buffer);
             }
             Then::Write => {
-                if !put(text, filled) {
-                    return;
+                if !put(rt, text, filled)? {
+                    return Ok(());
                 }
                 filled = 0;
             }
             Then::Stop => {
-                put(text, filled);
-                return;
+                put(rt, text, filled)?;
+                return Ok(());
             }
         }
         let fed = feed_rest(reader, &buffer[at..n], bases, flags, other, text, filled);
@@ -60,8 +72,8 @@ fn run(
         filled = fed.filled;
         then = fed.then;
         at += fed.used;
-        turns -= 1;
     }
+    Ok(())
 }
 
 // Nothing is left of the part only where nothing was read: at the end of the input.
@@ -85,12 +97,23 @@ fn feed_rest(
 }
 
 // Writes the bytes in use to standard output, or says that it cannot.
-fn put(text: &[u8], filled: usize) -> bool
+fn put(rt: &HostRuntime, text: &[u8], filled: usize) -> io::Result<bool>
     requires { filled ≤ length text.now }
 {
-    let is_written = io::write_all(libc::STDOUT_FILENO, &text[..filled]);
-    if !is_written {
-        os::fail(b"write");
+    match rt.stdout().write_all(&text[..filled]) {
+        Ok(()) => Ok(true),
+        Err(error) => {
+            say(rt, "write", &error)?;
+            Ok(false)
+        }
     }
-    is_written
+}
+
+// What failed, and the system's words for why, without its number.
+fn say(rt: &HostRuntime, what: &str, error: &io::Error) -> io::Result<()> {
+    let said = format!(in rt.alloc(); "{error}")?;
+    match said.as_str().split_once(" (os error") {
+        Some((why, _)) => eprintln!(rt; "{what}: {why}"),
+        None => eprintln!(rt; "{what}: {said}"),
+    }
 }

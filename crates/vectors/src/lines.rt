@@ -3,7 +3,8 @@ ghost use Rattle.std.specs.Prelude.{◌≤◌};
 
 use crate::{stores_cases, streams_cases};
 use cases::inner::{codes_cases, order_cases, print, views_cases};
-use libc::STDIN_FILENO;
+use std::io;
+use std::io::{Read, Write};
 
 // How far a line has been read, and how much of each buffer is in use.
 #[derive(Clone, Copy)]
@@ -23,66 +24,68 @@ fn at_most(n: usize, most: usize) -> usize
     if most < n { most } else { n }
 }
 
-// A proved loop has to end, and nothing says that the input does: the turns count down from a number that no run uses up.
-pub(crate) fn run_all() {
+// What a proved loop reads has to end, and nothing says that the input does: the turns are counted, up to a number that no run uses up.
+pub(crate) fn run_all<R: Read, W: Write>(from: &mut R, to: &mut W) -> io::Result<()> {
     let mut line = [0u64; 512];
     let mut first = [0u8; 512];
     let mut second = [0u8; 512];
     let mut out = [0u8; 512];
     let mut scan = start(0, 0, 0);
     let mut chunk = [0u8; 4096];
-    let mut turns = u64::MAX;
-    while 0 < turns {
-        let got = io::count(libc::read(STDIN_FILENO, &mut chunk), &chunk);
+    for _ in 0..u64::MAX {
+        let got = from.read(&mut chunk)?;
         if got == 0 {
-            return;
+            return Ok(());
         }
         scan = feed(
+            to,
             scan,
             &chunk[..got],
             &mut line,
             &mut first,
             &mut second,
             &mut out,
-        );
-        turns -= 1;
+        )?;
     }
+    Ok(())
 }
 
-fn feed(
+fn feed<W: Write>(
+    to: &mut W,
     from: Scan,
     chunk: &[u8],
     line: &mut [u64; 512],
     first: &mut [u8; 512],
     second: &mut [u8; 512],
     out: &mut [u8; 512],
-) -> Scan {
+) -> io::Result<Scan> {
     let mut scan = from;
     for i in 0..chunk.len() {
-        scan = take(scan, chunk[i], line, first, second, out);
+        scan = take(to, scan, chunk[i], line, first, second, out)?;
     }
-    scan
+    Ok(scan)
 }
 
 // One byte: a digit goes on with a number, anything else ends it, and a line's end runs the case.
-fn take(
+fn take<W: Write>(
+    to: &mut W,
     scan: Scan,
     b: u8,
     line: &mut [u64; 512],
     first: &mut [u8; 512],
     second: &mut [u8; 512],
     out: &mut [u8; 512],
-) -> Scan {
+) -> io::Result<Scan> {
     if b'0' <= b {
         if b <= b'9' {
-            return digit(scan, b - b'0');
+            return Ok(digit(scan, b - b'0'));
         }
     }
     let next = keep(scan, line);
     if b == b'\n' {
-        return run(next, line, first, second, out);
+        return run(to, next, line, first, second, out);
     }
-    next
+    Ok(next)
 }
 
 // Numbers stay below 2^32.
@@ -119,25 +122,26 @@ fn keep(scan: Scan, line: &mut [u64; 512]) -> Scan {
 }
 
 // Calls 1 and 2 fill a buffer with the line's other numbers, call 3 fills the third with one number; any other call is a case.
-fn run(
+fn run<W: Write>(
+    to: &mut W,
     scan: Scan,
     line: &mut [u64; 512],
     first: &mut [u8; 512],
     second: &mut [u8; 512],
     out: &mut [u8; 512],
-) -> Scan {
+) -> io::Result<Scan> {
     let call = line[0];
     if call == 1 {
-        return start(fill(line, scan.count, first), scan.second, scan.out);
+        return Ok(start(fill(line, scan.count, first), scan.second, scan.out));
     }
     if call == 2 {
-        return start(scan.first, fill(line, scan.count, second), scan.out);
+        return Ok(start(scan.first, fill(line, scan.count, second), scan.out));
     }
     if call == 3 {
-        return start(scan.first, scan.second, repeat(line[1], line[2], out));
+        return Ok(start(scan.first, scan.second, repeat(line[1], line[2], out)));
     }
-    replay(call, line, scan, first, second, out);
-    start(scan.first, scan.second, scan.out)
+    replay(to, call, line, scan, first, second, out)?;
+    Ok(start(scan.first, scan.second, scan.out))
 }
 
 // Where the next line starts.
@@ -153,32 +157,40 @@ fn start(first: usize, second: usize, out: usize) -> Scan {
 }
 
 // A case, on the parts of the buffers that are in use.
-fn replay<'a>(
+fn replay<'a, W: Write>(
+    to: &mut W,
     call: u64,
     line: &[u64; 512],
     scan: Scan,
     first: &'a [u8],
     second: &'a [u8],
     out: &mut [u8],
-) {
+) -> io::Result<()> {
     let a = at_most(scan.first, first.len());
     let b = at_most(scan.second, second.len());
     let o = at_most(scan.out, out.len());
-    run_case(call, line, &first[..a], &second[..b], &mut out[..o]);
-    print::end();
+    run_case(to, call, line, &first[..a], &second[..b], &mut out[..o])?;
+    print::end(to)
 }
 
-fn run_case<'a>(call: u64, line: &[u64; 512], first: &'a [u8], second: &'a [u8], out: &mut [u8]) {
+fn run_case<'a, W: Write>(
+    to: &mut W,
+    call: u64,
+    line: &[u64; 512],
+    first: &'a [u8],
+    second: &'a [u8],
+    out: &mut [u8],
+) -> io::Result<()> {
     if call < 30 {
-        codes_cases::run(call, line, first, out);
+        codes_cases::run(to, call, line, first, out)
     } else if call < 40 {
-        views_cases::run(call, line, first, out);
+        views_cases::run(to, call, line, first, out)
     } else if call < 50 {
-        order_cases::run(call, line, first, second);
+        order_cases::run(to, call, line, first, second)
     } else if call < 60 {
-        stores_cases::run(call, line, first, out);
+        stores_cases::run(to, call, line, first, out)
     } else {
-        streams_cases::run(call, line, first);
+        streams_cases::run(to, call, line, first)
     }
 }
 

@@ -6,6 +6,11 @@ mod lines;
 mod stores_cases;
 mod streams_cases;
 
-fn main() {
-    lines::run_all();
+use std::io;
+use std::io::{BufWriter, Write};
+
+fn main(rt: HostRuntime) -> io::Result<()> {
+    let mut to = BufWriter::new(rt.alloc(), rt.stdout())?;
+    lines::run_all(&mut rt.stdin(), &mut to)?;
+    to.flush()
 }

@@ -2,11 +2,17 @@
 use cases::inner::numbers::chars;
 use cases::inner::print;
 use codes::units::Chars;
-use stores::{bases, flags};
 use std::io;
 use std::io::Write;
+use stores::{bases, flags};
 
-pub(crate) fn run<W: Write>(to: &mut W, call: u64, line: &[u64; 512], text: &[u8], buffer: &mut [u8]) -> io::Result<()> {
+pub(crate) fn run<W: Write>(
+    to: &mut W,
+    call: u64,
+    line: &[u64; 512],
+    text: &[u8],
+    buffer: &mut [u8],
+) -> io::Result<()> {
     let len = chars(line, 2);
     let x = chars(line, 3);
     let y = chars(line, 4);
@@ -19,7 +25,15 @@ pub(crate) fn run<W: Write>(to: &mut W, call: u64, line: &[u64; 512], text: &[u8
     }
 }
 
-fn of_bases<W: Write>(to: &mut W, call: u64, text: &[u8], buffer: &mut [u8], len: Chars, x: Chars, y: Chars) -> io::Result<()> {
+fn of_bases<W: Write>(
+    to: &mut W,
+    call: u64,
+    text: &[u8],
+    buffer: &mut [u8],
+    len: Chars,
+    x: Chars,
+    y: Chars,
+) -> io::Result<()> {
     match call {
         50 => print::kept(to, bases::clear(buffer)),
         51 => print::pushed(to, bases::push_ascii(buffer, len, text)),
@@ -30,7 +44,15 @@ fn of_bases<W: Write>(to: &mut W, call: u64, text: &[u8], buffer: &mut [u8], len
     }
 }
 
-fn of_flags<W: Write>(to: &mut W, call: u64, text: &[u8], buffer: &mut [u8], len: Chars, x: Chars, y: Chars) -> io::Result<()> {
+fn of_flags<W: Write>(
+    to: &mut W,
+    call: u64,
+    text: &[u8],
+    buffer: &mut [u8],
+    len: Chars,
+    x: Chars,
+    y: Chars,
+) -> io::Result<()> {
     match call {
         50 => print::kept(to, flags::clear(buffer)),
         51 => print::pushed(to, flags::push_ascii(buffer, len, text)),

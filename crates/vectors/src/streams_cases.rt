@@ -1,12 +1,17 @@
 // Lane streams over a view of the first buffer, at width 2 and, for any other number, at width 1; flag windows.
 use cases::inner::numbers::{chars, number};
 use cases::inner::print;
-use streams::answers::Filled;
-use streams::{bases, flags};
 use std::io;
 use std::io::Write;
+use streams::answers::Filled;
+use streams::{bases, flags};
 
-pub(crate) fn run<W: Write>(to: &mut W, call: u64, line: &[u64; 512], bytes: &[u8]) -> io::Result<()> {
+pub(crate) fn run<W: Write>(
+    to: &mut W,
+    call: u64,
+    line: &[u64; 512],
+    bytes: &[u8],
+) -> io::Result<()> {
     match call {
         60 => plain(to, line, bytes),
         61 => delayed(to, line, bytes),
