@@ -19,7 +19,6 @@ use Rattle.streams.specs.Answers.{filled_says}
 use Rattle.lanes.specs.Lanes.{lane, padding, steps}
 use Rattle.windows.specs.Windows.{partial, skip_tests, window_tests, windows_filled, windows_outcome, windows_answer, windows_after}
 use Rattle.streams.specs.declared.answers.Filled.{Filled}
-use Rattle.streams.specs.declared.answers.Filled.TheVariants as Filled
 use Rattle.streams.proofs.OpenLaws.{outcome_of}
 
 -- filling's own tests, behind those of the windows

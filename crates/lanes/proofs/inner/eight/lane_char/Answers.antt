@@ -7,14 +7,10 @@ use native.Mathlib.Omega.{arith}
 use lib.ListN.{length}
 use Rattle.codes.specs.Codes.{chars}
 use Rattle.codes.proofs.TabLaws.{Below-of}
-use Rattle.codes.proofs.WordLaws.{Below}
 use Rattle.fields.proofs.LoadLaws.{Bits, view_bits, view_word}
 use Rattle.lanes.proofs.LaneLaws.{lane_char-early, lane_char-late, char_past, char_within, field-small, lane_place}
-use Rattle.lanes.proofs.inner.eight.lane_char.Goals.{After-shared_slice_known-1, Start}
+use Rattle.lanes.proofs.inner.eight.lane_char.Goals.{Start}
 use Rattle.lanes.proofs.inner.eight.lane_char.Goals as goal
-
-bytes : (c : After-shared_slice_known-1) → Below 8 c.args.bytes.now
-bytes c = Below-of 8 c.args.bytes.now (λ i. omega (arith, c.shared_slice_known-1.given i))
 
 module _ (s : Start) where
   abbrev cs : List ℕ
@@ -49,7 +45,7 @@ pub returns-then-len-i : goal.returns-then-len-i
 returns-then-len-i c =
     let s = c in
     let a = s.args in
-    char_past s.requires.width a.bytes.now (bytes (goal.at.returns-then-len-i c).After-shared_slice_known-1) a.offset a.len (i (goal.at.returns-then-len-i c).Start) c.if-len-i.true ∙ lane_char-late (cs (goal.at.returns-then-len-i c).Start) a.n a.d a.j a.l c.if-j-d.false
+    char_past s.requires.width a.bytes.now (Below-of 8 c.args.bytes.now (λ i. omega (arith, c.type_inv.bytes i))) a.offset a.len (i (goal.at.returns-then-len-i c).Start) c.if-len-i.true ∙ lane_char-late (cs (goal.at.returns-then-len-i c).Start) a.n a.d a.j a.l c.if-j-d.false
 
 pub overflow_add-offset : goal.overflow_add-offset
 overflow_add-offset c = omega (arith, (bits (goal.at.overflow_add-offset c).Start).short)
@@ -69,5 +65,5 @@ returns c =
     let s = t in
     let a = s.args in
     c.narrow.ensures ∙ c.bits_at.ensures
-    ∙ char_within s.requires.width a.bytes.now (bytes (goal.at.returns c).After-shared_slice_known-1) a.offset a.len (i (goal.at.returns c).Start) t.if-len-i.false
+    ∙ char_within s.requires.width a.bytes.now (Below-of 8 c.args.bytes.now (λ i. omega (arith, c.type_inv.bytes i))) a.offset a.len (i (goal.at.returns c).Start) t.if-len-i.false
     ∙ lane_char-late (cs (goal.at.returns c).Start) a.n a.d a.j a.l t.if-j-d.false

@@ -8,7 +8,7 @@ use Rattle.codes.proofs.MadeLaws.{made_none, made-on, made-to, made-is}
 use Rattle.codes.proofs.WidthLaws.{below_or}
 use Rattle.lanes.specs.Lanes.{filled}
 use Rattle.lanes.proofs.TurnLaws.{filled-early, filled_more, width_turn}
-use Rattle.lanes.proofs.inner.fills.fill_lanes.Goals.{After-slice_known-2-1, After-smaller-count}
+use Rattle.lanes.proofs.inner.fills.fill_lanes.Goals.{After-zero_entries, After-smaller-count}
 use Rattle.lanes.proofs.inner.fills.fill_lanes.Goals as goal
 
 pub overflow_mul-start : goal.overflow_mul-start
@@ -20,7 +20,7 @@ zero_entries-requires c =
     omega (arith, c.smaller-start.ensures, min-le_right c.args.d c.args.steps)
 
 -- where the delay is over, or the steps are
-module _ (c : After-slice_known-2-1) where
+module _ (c : After-zero_entries) where
   turn_is : c.over_width-turn.result ≡ 64 / c.args.w
   turn_is = c.over_width-turn.ensures
 
@@ -43,13 +43,13 @@ module _ (c : After-slice_known-2-1) where
   cs = chars c.args.w c.args.bytes.now c.args.offset c.args.len
 
 pub loop-j-init : goal.loop-j-init
-loop-j-init c = (omega arith, omega (arith, start_right c), made_none (omega arith))
+loop-j-init c = (omega arith, omega (arith, start_right (goal.at.loop-j-init c).After-zero_entries), made_none (omega arith))
 
 pub overflow_sub-j : goal.overflow_sub-j
-overflow_sub-j c = late (goal.at.overflow_sub-j c).After-slice_known-2-1 c.loop-j.j c.loop-j.invariant.0 (omega arith)
+overflow_sub-j c = late (goal.at.overflow_sub-j c).After-zero_entries c.loop-j.j c.loop-j.invariant.0 (omega arith)
 
 pub lane_words-words-requires : goal.lane_words-words-requires
-lane_words-words-requires c = let p = c in record { width = p.requires.width; len_value = p.requires.len_value; turn_value = (turn_is (goal.at.lane_words-words-requires c).After-slice_known-2-1, p.requires.n_bound.0, omega arith) }
+lane_words-words-requires c = let p = c in record { width = p.requires.width; len_value = p.requires.len_value; turn_value = (turn_is (goal.at.lane_words-words-requires c).After-zero_entries, p.requires.n_bound.0, omega arith) }
 
 pub overflow_sub-steps : goal.overflow_sub-steps
 overflow_sub-steps c = omega arith
@@ -63,7 +63,7 @@ module _ (c : After-smaller-count) where
   left = c.args.steps - c.loop-j.j
 
   count_is : c.smaller-count.result ≡ min turn left
-  count_is = c.smaller-count.ensures ∙ ap (λ (k : ℕ). min k left) (turn_is (goal.at.After-smaller-count c).After-slice_known-2-1)
+  count_is = c.smaller-count.ensures ∙ ap (λ (k : ℕ). min k left) (turn_is (goal.at.After-smaller-count c).After-zero_entries)
 
   count_left : c.smaller-count.result ≤ turn
   count_left = omega (arith, count_is, min-le_left turn left)
@@ -95,10 +95,10 @@ loop-j-preserved c =
     let o = k.loop-j in
     let a = k.args in
     let words = k.lane_words-words in
-    let h = late (goal.at.loop-j-preserved c).After-slice_known-2-1 o.j o.invariant.0 (omega arith) in (
+    let h = late (goal.at.loop-j-preserved c).After-zero_entries o.j o.invariant.0 (omega arith) in (
       omega arith,
       omega (arith, count_right (goal.at.loop-j-preserved c).After-smaller-count),
-      filled_more a.w (cs (goal.at.loop-j-preserved c).After-slice_known-2-1) a.n a.d o.j k.smaller-count.result words.result h (count_left (goal.at.loop-j-preserved c).After-smaller-count) words.ensures o.invariant.2 c.write_turn.ensures o.invariant.0,
+      filled_more a.w (cs (goal.at.loop-j-preserved c).After-zero_entries) a.n a.d o.j k.smaller-count.result words.result h (count_left (goal.at.loop-j-preserved c).After-smaller-count) words.ensures o.invariant.2 c.write_turn.ensures o.invariant.0,
     )
 
 pub shape_of-out : goal.shape_of-out
@@ -109,5 +109,5 @@ unfolding filled
 returns c =
     let p = c in
     let a = p.args in
-    let front = filled-early (cs (goal.at.returns c).After-slice_known-2-1) a.n a.d (start (goal.at.returns c).After-slice_known-2-1) (start_left (goal.at.returns c).After-slice_known-2-1) p.zero_entries.ensures in
-    made-is (made-on front (made-to {to = 8 * a.steps} c.loop-j.invariant.2 (omega arith)) (omega arith) (omega (arith, start_right (goal.at.returns c).After-slice_known-2-1))) p.requires.n_bound.2
+    let front = filled-early (cs (goal.at.returns c).After-zero_entries) a.n a.d (start (goal.at.returns c).After-zero_entries) (start_left (goal.at.returns c).After-zero_entries) p.zero_entries.ensures in
+    made-is (made-on front (made-to {to = 8 * a.steps} c.loop-j.invariant.2 (omega arith)) (omega arith) (omega (arith, start_right (goal.at.returns c).After-zero_entries))) p.requires.n_bound.2

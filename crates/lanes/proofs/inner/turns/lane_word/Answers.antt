@@ -6,15 +6,11 @@ use native.Mathlib.Omega.{arith}
 use lib.ListN.{length}
 use Rattle.codes.specs.Codes.{chars}
 use Rattle.codes.proofs.TabLaws.{Below-of}
-use Rattle.codes.proofs.WordLaws.{Below}
 use Rattle.fields.proofs.LoadLaws.{Bits, view_bits, view_word}
 use Rattle.lanes.specs.Turns.{Holds}
 use Rattle.lanes.proofs.TurnLaws.{holds_none, holds_last, holds_turn}
-use Rattle.lanes.proofs.inner.turns.lane_word.Goals.{After-shared_slice_known-1, Start, Then-left-turn}
+use Rattle.lanes.proofs.inner.turns.lane_word.Goals.{Start, Then-left-turn}
 use Rattle.lanes.proofs.inner.turns.lane_word.Goals as goal
-
-bytes : (c : After-shared_slice_known-1) → Below 8 c.args.bytes.now
-bytes c = Below-of 8 c.args.bytes.now (λ i. omega (arith, c.shared_slice_known-1.given i))
 
 module _ (s : Start) where
   bits : Bits s.args.w (length s.args.bytes.now) s.args.offset s.args.len
@@ -29,7 +25,7 @@ module _ (s : Start) where
 
 pub returns-then-len-i : goal.returns-then-len-i
 returns-then-len-i c =
-    let s = c in holds_none s.requires.width s.args.bytes.now (bytes (goal.at.returns-then-len-i c).After-shared_slice_known-1) s.args.offset s.args.len s.args.i c.if-len-i.true
+    let s = c in holds_none s.requires.width s.args.bytes.now (Below-of 8 c.args.bytes.now (λ i. omega (arith, c.type_inv.bytes i))) s.args.offset s.args.len s.args.i c.if-len-i.true
 
 fits : (c : Then-left-turn) → c.args.w * (c.args.len - c.args.i) ≤ 64
 fits c =
@@ -53,7 +49,7 @@ pub returns-then-left-turn : goal.returns-then-left-turn
 returns-then-left-turn c =
     let s = c in
     let a = s.args in
-    let h = holds_last s.requires.width a.bytes.now (bytes (goal.at.returns-then-left-turn c).After-shared_slice_known-1) a.offset a.len a.i (a.len - a.i) (omega arith) in
+    let h = holds_last s.requires.width a.bytes.now (Below-of 8 c.args.bytes.now (λ i. omega (arith, c.type_inv.bytes i))) a.offset a.len a.i (a.len - a.i) (omega arith) in
     subst (Holds a.w (chars a.w a.bytes.now a.offset a.len) a.i) (sym c.bits_at.ensures) h
 
 pub overflow_add-offset-2 : goal.overflow_add-offset-2
@@ -69,5 +65,5 @@ pub returns : goal.returns
 returns c =
     let s = c in
     let a = s.args in
-    let h = holds_turn s.requires.width a.bytes.now (bytes (goal.at.returns c).After-shared_slice_known-1) a.offset a.len a.i (omega (arith, s.requires.turn_value)) in
+    let h = holds_turn s.requires.width a.bytes.now (Below-of 8 c.args.bytes.now (λ i. omega (arith, c.type_inv.bytes i))) a.offset a.len a.i (omega (arith, s.requires.turn_value)) in
     subst (Holds a.w (chars a.w a.bytes.now a.offset a.len) a.i) (sym c.bits_at-2.ensures) h
