@@ -4,13 +4,10 @@ use mathlib.Core.Path.{◌≡◌}
 use Prim.Native.Nat.{ℕ}
 use Rattle.codes.specs.Answers.{symbol_says, word_says, word128_says}
 use Rattle.codes.specs.declared.letters.Symbol.{Symbol}
-use Rattle.codes.specs.declared.letters.Symbol.TheVariants as Symbol
 use Rattle.codes.specs.declared.refusals.Outcome.{Outcome}
 use Rattle.codes.specs.declared.refusals.Outcome.TheVariants.{Done, Refused}
 use Rattle.codes.specs.declared.words.Word.{Word}
-use Rattle.codes.specs.declared.words.Word.TheVariants as Word
 use Rattle.codes.specs.declared.words.Word128.{Word128}
-use Rattle.codes.specs.declared.words.Word128.TheVariants as Word128
 use Rattle.codes.proofs.RefusalLaws.{Told, outcome_at, outcome_at_number}
 
 abbrev symbol_of : Outcome → ℕ → Symbol

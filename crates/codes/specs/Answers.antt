@@ -3,12 +3,9 @@
 use Rattle.std.specs.Prelude.{ℕ, ◌/◌, ◌%◌, ◌^◌}
 use Rattle.codes.specs.Refusals.{Answer, answer}
 use Rattle.codes.specs.declared.letters.Symbol.{Symbol}
-use Rattle.codes.specs.declared.letters.Symbol.TheVariants as Symbol
 use Rattle.codes.specs.declared.refusals.Outcome.TheVariants.{Done, Refused}
 use Rattle.codes.specs.declared.words.Word.{Word}
-use Rattle.codes.specs.declared.words.Word.TheVariants as Word
 use Rattle.codes.specs.declared.words.Word128.{Word128}
-use Rattle.codes.specs.declared.words.Word128.TheVariants as Word128
 
 abbrev pub symbol_says : Symbol → Answer ℕ
 symbol_says (Symbol.Is x) = answer Done x 0

@@ -14,11 +14,8 @@ use Rattle.codes.specs.declared.units.Chars.{Chars}
 use Rattle.codes.proofs.RefusalLaws.{Told, outcome_at, outcome_at_number, says-once}
 use Rattle.order.specs.Answers.{compared_says, found_says, least_says}
 use Rattle.order.specs.declared.answers.Compared.{Compared}
-use Rattle.order.specs.declared.answers.Compared.TheVariants as Compared
 use Rattle.order.specs.declared.answers.Found.{Found}
-use Rattle.order.specs.declared.answers.Found.TheVariants as Found
 use Rattle.order.specs.declared.answers.Least.{Least}
-use Rattle.order.specs.declared.answers.Least.TheVariants as Least
 
 abbrev count : ℕ → Chars
 count n = record { 0 = n }

@@ -20,7 +20,6 @@ use Rattle.views.proofs.PartLaws.{part_of, numbers_outcome}
 use Rattle.order.specs.Answers.{compared_says}
 use Rattle.order.specs.Order.{common, pair_outcome, pair_order, compared, is_second, choice, chosen, numbers_in}
 use Rattle.order.specs.declared.answers.Compared.{Compared}
-use Rattle.order.specs.declared.answers.Compared.TheVariants as Compared
 use Rattle.order.specs.declared.answers.Order.{Order}
 use Rattle.order.specs.declared.inner.least.Choice.{Choice}
 use Rattle.order.proofs.AnswerLaws.{compared_by, compared_is}

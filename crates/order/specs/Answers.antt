@@ -5,11 +5,8 @@ use Rattle.codes.specs.Refusals.{Answer, answer}
 use Rattle.codes.specs.declared.refusals.Outcome.TheVariants.{Done, Refused}
 use Rattle.order.specs.Order.{order_number}
 use Rattle.order.specs.declared.answers.Compared.{Compared}
-use Rattle.order.specs.declared.answers.Compared.TheVariants as Compared
 use Rattle.order.specs.declared.answers.Found.{Found}
-use Rattle.order.specs.declared.answers.Found.TheVariants as Found
 use Rattle.order.specs.declared.answers.Least.{Least}
-use Rattle.order.specs.declared.answers.Least.TheVariants as Least
 
 abbrev pub compared_says : Compared → Answer (ℤ × ℕ)
 compared_says (Compared.Is o n) = answer Done (order_number o, n.0) (pos 0, 0)

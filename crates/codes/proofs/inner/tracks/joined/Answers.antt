@@ -26,7 +26,6 @@ module _ (low high s : ℕ) (l : s ≤ 8) (h : high < 256) where
       (digits_lt (shr_lt (8 - s) s (subst (λ (k : ℕ). high < 2 ^ k) (sym e) h)) (mod-lt low (pow_pos s)))
 
 module _ (c : After-wide-2) where
-
   high_lt : c.wide.result < 256
   high_lt = omega (arith, c.wide.ensures, c.ranges.high.fits)
 

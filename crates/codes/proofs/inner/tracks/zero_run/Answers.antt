@@ -1,5 +1,4 @@
 use mathlib.Core.Path.{refl}
-use Prim.Native.Nat.{◌-◌}
 use native.Mathlib.Omega.{arith}
 use Rattle.codes.proofs.MadeLaws.{made_none, made_more, made-to}
 use Rattle.codes.proofs.inner.tracks.zero_run.Goals as goal

@@ -2,7 +2,7 @@
 use mathlib.Core.Path.{◌≡◌}
 use Prim.Native.Nat.{◌-◌, ◌≤◌}
 use Rattle.codes.specs.Codes.{chars}
-use Rattle.fields.specs.Flags.{sum, set_flags}
+use Rattle.fields.specs.Flags.{set_flags}
 use Rattle.fields.proofs.inner.flags.set_flags.Given as goal
 
 abbrev pub invariant-loop-done : goal.invariant-loop-done

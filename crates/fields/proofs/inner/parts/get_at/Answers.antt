@@ -23,7 +23,6 @@ module _ (c : After-refuse_if) where
 
 -- the index is accepted here, and the place of its character
 module _ (c : After-count-in-Done) where
-
   within : Within c.args.w (length c.args.bytes.now) c.args.offset.0 c.args.len.0 c.args.i.0
   within = index_within _ _ _ _ _ (sym (outcome (goal.at.After-count-in-Done c).After-refuse_if) ∙ c.in-Done.is)
 

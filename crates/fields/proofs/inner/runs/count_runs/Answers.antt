@@ -8,9 +8,6 @@ use lib.ListN.{length}
 use Rattle.codes.specs.Codes.{chars}
 use Rattle.fields.specs.Runs.{runs, runs_from}
 use Rattle.fields.proofs.RunLaws.{Turn, same_to, same_within, runs_over, runs_passed, runs_turn}
-use Rattle.fields.proofs.inner.runs.count_runs.Reads as reads
-use Rattle.fields.proofs.inner.runs.count_runs.Lts as lts
-use Rattle.fields.proofs.inner.runs.run_end.Reads as run-end-reads
 use Rattle.fields.proofs.inner.runs.count_runs.Invariants.{Passed}
 use Rattle.fields.proofs.inner.runs.count_runs.Goals.{After-run_end-p-in-loop-p}
 use Rattle.fields.proofs.inner.runs.count_runs.Goals as goal

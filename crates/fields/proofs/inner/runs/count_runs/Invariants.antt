@@ -6,9 +6,6 @@ use lib.ListN.{length}
 use Rattle.codes.specs.Codes.{chars}
 use Rattle.fields.specs.Runs.{runs, runs_from}
 use Rattle.fields.proofs.RunLaws.{same_to}
-use Rattle.fields.proofs.inner.runs.count_runs.Reads as reads
-use Rattle.fields.proofs.inner.runs.count_runs.Lts as lts
-use Rattle.fields.proofs.inner.runs.run_end.Reads as run-end-reads
 use Rattle.fields.proofs.inner.runs.count_runs.Given as goal
 
 -- `count` runs are passed, and a run begins at p

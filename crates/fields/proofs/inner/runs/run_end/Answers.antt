@@ -1,5 +1,4 @@
 use mathlib.Core.List.{List}
-use mathlib.Core.Logic.{⊎_elim}
 use mathlib.Core.Path.{◌≡◌, refl, sym, ap, ◌∙◌}
 use Prim.Native.Nat.{ℕ, ◌+◌, ◌-◌, ◌/◌, ◌^◌, ◌≤◌, ◌<◌, min}
 use native.Mathlib.Nat.{le_of_eq}
@@ -12,9 +11,6 @@ use Rattle.codes.proofs.TabLaws.{Below-of}
 use Rattle.codes.proofs.WordLaws.{Below}
 use Rattle.fields.specs.Runs.{leading}
 use Rattle.fields.proofs.RunLaws.{zeros_0, zeros_1, same_found, same_on, same_none}
-use Rattle.fields.proofs.inner.runs.run_end.Reads as reads
-use Rattle.fields.proofs.inner.runs.run_end.Lts as lts
-use Rattle.fields.proofs.inner.loads.peek.Reads as peek-reads
 use Rattle.fields.proofs.inner.runs.run_end.Goals.{Joined-end-at-gt56, Joined-v-eq0, then-end-at-gt56, else-end-at-gt56, then-v-eq0, else-v-eq0}
 use Rattle.fields.proofs.inner.runs.run_end.Goals as goal
 
@@ -29,8 +25,8 @@ small c =
     let end : ℕ = c.args.end in
     let l : at < end = search rules in
     elim c.if-end-at-gt56.branch [
-      then-end-at-gt56 w ↦ (omega arith, omega arith, omega arith)
-    | else-end-at-gt56 w ↦ (omega arith, omega arith, omega arith)
+      | then-end-at-gt56 w ↦ (omega arith, omega arith, omega arith)
+      | else-end-at-gt56 w ↦ (omega arith, omega arith, omega arith)
     ]
 
 pub peek-x-requires : goal.peek-x-requires
@@ -55,17 +51,17 @@ zeros c =
     let x : ℕ = c.peek-x.result in
     let b : Below 8 s = Below-of 8 s (λ i. (k.shared_slice_known-1.given i).fits) in
     elim c.if-v-eq0.branch [
-      then-v-eq0 w ↦
-    let e : a.v ≡ 0 = w.if-v-eq0.true in
-    let o : c.if-v-eq0.other ≡ x = w.other-is in
-    ap (λ (v : ℕ). leading v (chars 1 s at n)) e ∙ zeros_0 s b at n x (small (goal.at.Joined-v-eq0 c).Joined-end-at-gt56).0 c.peek-x.ensures ∙ ap (λ (y : ℕ). min (count_trailing_zeros 64 y) n) (sym o)
-    | else-v-eq0 w ↦
-    let u : a.v ≡ 0 → ⊥ = w.if-v-eq0.false in
-    let m : a.v ≤ 1 = k.requires.2 in
-    let e : a.v ≡ 1 = omega (arith, u, m) in
-    let o : c.if-v-eq0.other ≡ 2 ^ 64 - 1 - x = w.other-is in
-    let h : x < 2 ^ 64 = search rules in
-    ap (λ (v : ℕ). leading v (chars 1 s at n)) e ∙ zeros_1 s b at n x (small (goal.at.Joined-v-eq0 c).Joined-end-at-gt56).0 c.peek-x.ensures c.if-v-eq0.other (omega (arith, o, h))
+      | then-v-eq0 w ↦
+          let e : a.v ≡ 0 = w.if-v-eq0.true in
+          let o : c.if-v-eq0.other ≡ x = w.other-is in
+          ap (λ (v : ℕ). leading v (chars 1 s at n)) e ∙ zeros_0 s b at n x (small (goal.at.Joined-v-eq0 c).Joined-end-at-gt56).0 c.peek-x.ensures ∙ ap (λ (y : ℕ). min (count_trailing_zeros 64 y) n) (sym o)
+      | else-v-eq0 w ↦
+          let u : a.v ≡ 0 → ⊥ = w.if-v-eq0.false in
+          let m : a.v ≤ 1 = k.requires.2 in
+          let e : a.v ≡ 1 = omega (arith, u, m) in
+          let o : c.if-v-eq0.other ≡ 2 ^ 64 - 1 - x = w.other-is in
+          let h : x < 2 ^ 64 = search rules in
+          ap (λ (v : ℕ). leading v (chars 1 s at n)) e ∙ zeros_1 s b at n x (small (goal.at.Joined-v-eq0 c).Joined-end-at-gt56).0 c.peek-x.ensures c.if-v-eq0.other (omega (arith, o, h))
     ]
 
 pub overflow_cast-k : goal.overflow_cast-k

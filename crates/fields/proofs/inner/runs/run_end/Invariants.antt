@@ -3,9 +3,6 @@ use mathlib.Core.Path.{◌≡◌}
 use Prim.Native.Nat.{◌+◌, ◌-◌, ◌≤◌}
 use Rattle.codes.specs.Codes.{chars}
 use Rattle.fields.specs.Runs.{leading}
-use Rattle.fields.proofs.inner.runs.run_end.Reads as reads
-use Rattle.fields.proofs.inner.runs.run_end.Lts as lts
-use Rattle.fields.proofs.inner.loads.peek.Reads as peek-reads
 use Rattle.fields.proofs.inner.runs.run_end.Given as goal
 
 abbrev pub invariant-loop-at : goal.invariant-loop-at

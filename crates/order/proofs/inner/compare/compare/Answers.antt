@@ -12,7 +12,6 @@ use Rattle.order.proofs.inner.compare.compare.Goals as goal
 
 -- the two views, not refused
 module _ (c : After-count-n) where
-
   done : let a = c.args in pair_outcome a.w a.a.now a.ao.0 a.al.0 a.b.now a.bo.0 a.bl.0 ≡ Done
   done = sym c.pair_outcome.ensures ∙ c.in-Done.is
 

@@ -1,11 +1,10 @@
-use Prim.Native.Nat.{ℕ, ◌+◌, ◌-◌, ◌*◌, ◌/◌, ◌%◌, ◌^◌, ◌<◌, min}
+use Prim.Native.Nat.{ℕ, ◌+◌, ◌*◌, ◌/◌, ◌%◌, ◌^◌, ◌<◌, min}
 use native.Mathlib.Nat.{div-le_self, mul-div-le, le_of_lt, le-min, min-le_left, min-le_right, min-eq_left, min-eq_right}
 use native.Mathlib.Omega.{arith}
 use lib.Bits.{bit_xor}
 use lib.Count.{count_trailing_zeros}
 use lib.ListN.{length}
 use mathlib.Core.List.{[], ◌∷◌}
-use mathlib.Core.Logic.{⊎_elim}
 use mathlib.Core.Path.{◌≡◌, sym, ap, ap₂, ◌∙◌, subst}
 use Rattle.codes.proofs.TabLaws.{Below-of}
 use Rattle.codes.specs.Codes.{chars}
@@ -48,8 +47,6 @@ peek-y-requires c = omega (arith, (turn_right (two (goal.at.peek-y-requires c).A
 
 -- the first bits that differ: the character they stand in is within the 56
 module _ (c : Then-z-ne0) where
-
-
   abbrev width : ℕ
   width = c.args.w
 
@@ -155,13 +152,12 @@ ended c =
     let v = two (goal.at.Left-loop-i c).After-over_width-turn in
     let i = c.loop-i.invariant in
     elim c.loop-i-test.branch [
-      else-loop-i-test w ↦ passed_all v i w.loop-i-test.false
-    | then-loop-i-test+then-z-ne0+then-n-common w ↦
-      sym (min-eq_right w.if-n-common.true)
-      ∙ ap (λ (j : ℕ). min (c.loop-i.i + j) c.smaller-n.result) w.over_width-k.ensures
-      ∙ passed_found v i w.peek-x.result w.peek-y.result w.peek-x.ensures w.peek-y.ensures w.if-z-ne0.true
+      | else-loop-i-test w ↦ passed_all v i w.loop-i-test.false
+      | then-loop-i-test+then-z-ne0+then-n-common w ↦
+          sym (min-eq_right w.if-n-common.true)
+          ∙ ap (λ (j : ℕ). min (c.loop-i.i + j) c.smaller-n.result) w.over_width-k.ensures
+          ∙ passed_found v i w.peek-x.result w.peek-y.result w.peek-x.ensures w.peek-y.ensures w.if-z-ne0.true
     ]
-
 
 pub returns : goal.returns
 returns c =

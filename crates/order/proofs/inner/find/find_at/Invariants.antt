@@ -1,7 +1,6 @@
 -- The invariant: the pattern stands at no place passed. Where its first bits are not, it does not stand. Assumes nothing.
 use mathlib.Core.Path.{◌≡◌}
 use Prim.Native.Nat.{ℕ, ◌+◌, ◌-◌, ◌<◌, ◌≤◌}
-use Rattle.codes.specs.Refusals.{answer}
 use Rattle.order.specs.declared.answers.Found.TheVariants.{Absent}
 use Rattle.order.proofs.FindLaws.{Stands}
 use Rattle.order.proofs.inner.find.find_at.Given as goal

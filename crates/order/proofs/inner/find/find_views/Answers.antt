@@ -11,7 +11,6 @@ use Rattle.order.proofs.inner.find.find_views.Goals as goal
 
 -- the two views, not refused
 module _ (c : After-count-in-Done-3) where
-
   done : let a = c.args in pair_outcome a.w a.t.now a.to.0 a.tl.0 a.p.now a.po.0 a.pl.0 ≡ Done
   done = sym c.pair_outcome.ensures ∙ c.in-Done.is
 

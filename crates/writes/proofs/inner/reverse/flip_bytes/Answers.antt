@@ -1,4 +1,3 @@
-use Prim.Native.Nat.{◌-◌}
 use native.Mathlib.Omega.{arith}
 use Rattle.codes.proofs.MadeLaws.{made_none, made_more, made-to}
 use Rattle.writes.proofs.inner.reverse.flip_bytes.Goals as goal

@@ -62,7 +62,6 @@ pub write_flipped-requires : goal.write_flipped-requires
 write_flipped-requires c =
     let k = c in
     let j = k in
-    
     let e = ap₂ (λ (o l : ℕ). first (view_tests j.args.w (length j.args.bytes.now) o l)) c.count.ensures k.count-n.ensures ∙ done (goal.at.write_flipped-requires c).In-Done in record { width = j.requires.width; w_bound = j.requires.w_bound; len_value = e; used_value = (used (goal.at.write_flipped-requires c).After-count-n, omega arith) }
 
 pub returns-in-Refused : goal.returns-in-Refused
