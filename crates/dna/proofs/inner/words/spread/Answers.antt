@@ -3,10 +3,9 @@ use mathlib.Core.Path.{refl}
 use Prim.Native.Nat.{ℕ}
 use Rattle.codes.proofs.Net.{mask}
 use Rattle.dna.proofs.SpreadLaws.{spread_stage, spread_start}
-use Rattle.dna.proofs.inner.words.spread.Statement.{statement}
-use Rattle.dna.proofs.inner.words.spread.Tie as tie
+use Rattle.dna.proofs.inner.words.spread.Goals as goal
 
-returns : tie.Need-returns
+pub returns : goal.returns
 unfolding mask
 returns c =
     let f : ℕ = c.args.f in
@@ -15,6 +14,3 @@ returns c =
     (spread_stage 4 4 0x0f0f_0f0f_0f0f_0f0f f _ refl
     (spread_stage 8 2 0x00ff_00ff_00ff_00ff f _ refl
     (spread_stage 16 1 0x0000_ffff_0000_ffff f f refl (spread_start 32 f c.requires)))))
-
-pub spread_spec : {M : Type 1} → statement M
-spread_spec = tie.close (tie.spec returns)

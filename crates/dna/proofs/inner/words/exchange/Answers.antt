@@ -8,8 +8,7 @@ use Rattle.codes.specs.Words.{flip, same}
 use Rattle.codes.proofs.Net.{mask, stage, rep}
 use Rattle.dna.specs.Dna.{exchanged}
 use Rattle.dna.proofs.PairLaws.{crossed, crossed_flip, flip_twice, flip-bytes}
-use Rattle.dna.proofs.inner.words.exchange.Statement.{statement}
-use Rattle.dna.proofs.inner.words.exchange.Tie as tie
+use Rattle.dna.proofs.inner.words.exchange.Goals as goal
 
 -- the pairs, crossed in a machine word
 crossing : (x b : ℕ) → b ≡ flip 2 same 32 x → bit_xor (bit_xor b (bit_and b 0x5555_5555_5555_5555 * 2 ^ 1 % 2 ^ 64)) 0xaaaa_aaaa_aaaa_aaaa ≡ flip 2 exchanged 32 x
@@ -20,13 +19,10 @@ crossing x b e =
     ∙ ap (λ (y : ℕ). crossed y 0x5555_5555_5555_5555 0xaaaa_aaaa_aaaa_aaaa) e
     ∙ crossed_flip 32 x
 
-returns : tie.Need-returns
+pub returns : goal.returns
 unfolding mask
 returns c =
     let x : ℕ = c.args.x in
     let r : ℕ = flip 8 same 8 x in
     crossing r _ (stage 64 2 16 0x3333_3333_3333_3333 r _ refl (lit< tt) (stage 64 4 8 0x0f0f_0f0f_0f0f_0f0f r _ refl (lit< tt) (flip_twice 8 8 x c.ranges.x.fits)))
     ∙ flip-bytes exchanged 8 x
-
-pub exchange_spec : {M : Type 1} → statement M
-exchange_spec = tie.close (tie.spec returns)
