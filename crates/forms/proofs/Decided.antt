@@ -8,9 +8,7 @@ use Rattle.codes.proofs.Permitted.{Once, skip}
 use Rattle.codes.proofs.RefusalLaws.{Told, outcome_at, outcome_at_number, says-once, leaves_once}
 use Rattle.forms.specs.Answers.{wrote_says, restored_says}
 use Rattle.forms.specs.declared.answers.Wrote.{Wrote}
-use Rattle.forms.specs.declared.answers.Wrote.TheVariants as Wrote
 use Rattle.forms.specs.declared.answers.Restored.{Restored}
-use Rattle.forms.specs.declared.answers.Restored.TheVariants as Restored
 use Rattle.forms.proofs.forms.write.Kinds as write·kinds
 use Rattle.forms.proofs.forms.write.Reads as write
 use Rattle.forms.proofs.forms.read.Kinds as read·kinds

@@ -6,13 +6,9 @@ use Rattle.codes.specs.Refusals.{Answer, answer}
 use Rattle.codes.specs.declared.refusals.Outcome.TheVariants.{Done, Refused}
 use Rattle.forms.specs.Numbers.{Spelling}
 use Rattle.forms.specs.declared.answers.Wrote.{Wrote}
-use Rattle.forms.specs.declared.answers.Wrote.TheVariants as Wrote
 use Rattle.forms.specs.declared.answers.Restored.{Restored}
-use Rattle.forms.specs.declared.answers.Restored.TheVariants as Restored
 use Rattle.forms.specs.declared.inner.numbers.Spelled.{Spelled}
-use Rattle.forms.specs.declared.inner.numbers.Spelled.TheVariants as Spelled
 use Rattle.forms.specs.declared.inner.reading.Checked.{Checked}
-use Rattle.forms.specs.declared.inner.reading.Checked.TheVariants as Checked
 
 -- the bytes written
 abbrev pub wrote_says : Wrote → Answer ℕ

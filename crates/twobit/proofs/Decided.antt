@@ -9,15 +9,10 @@ use Rattle.codes.proofs.RefusalLaws.{Told, outcome_at, outcome_at_number, says-o
 use Rattle.twobit.specs.Answers.{sized_says, cursor_says, entry_says, info_says, read_says}
 use Rattle.twobit.specs.Reading.{Entered, no_entry, Informed, no_info}
 use Rattle.twobit.specs.declared.answers.Sized.{Sized}
-use Rattle.twobit.specs.declared.answers.Sized.TheVariants as Sized
 use Rattle.twobit.specs.declared.answers.Cursor.{Cursor}
-use Rattle.twobit.specs.declared.answers.Cursor.TheVariants as Cursor
 use Rattle.twobit.specs.declared.answers.Entry.{Entry}
-use Rattle.twobit.specs.declared.answers.Entry.TheVariants as Entry
 use Rattle.twobit.specs.declared.answers.Info.{Info}
-use Rattle.twobit.specs.declared.answers.Info.TheVariants as Info
 use Rattle.twobit.specs.declared.answers.Read.{Read}
-use Rattle.twobit.specs.declared.answers.Read.TheVariants as Read
 use Rattle.twobit.proofs.reading.check.Kinds as check·kinds
 use Rattle.twobit.proofs.reading.check.Reads as check
 use Rattle.twobit.proofs.reading.first.Kinds as first·kinds

@@ -23,9 +23,7 @@ use Rattle.codes.proofs.TestLaws.{first_at, first_none}
 use Rattle.twobit.specs.Answers.{info_says, read_says}
 use Rattle.twobit.specs.Reading.{good_header, is_big, is_record, size_at, block_count, masks_place, Informed, no_info, bad_record, info_outcome, info_answer, record_tests, record_outcome, record_answer}
 use Rattle.twobit.specs.declared.answers.Info.{Info}
-use Rattle.twobit.specs.declared.answers.Info.TheVariants as Info
 use Rattle.twobit.specs.declared.answers.Read.{Read}
-use Rattle.twobit.specs.declared.answers.Read.TheVariants as Read
 use Rattle.twobit.proofs.Decided.{info_told, read_told}
 use Rattle.twobit.proofs.reading.record_info.Kinds as record-info·kinds
 use Rattle.twobit.proofs.reading.record_info.Reads as record-info

@@ -5,15 +5,10 @@ use Rattle.codes.specs.Refusals.{Answer, answer}
 use Rattle.codes.specs.declared.refusals.Outcome.TheVariants.{Done, Refused}
 use Rattle.twobit.specs.Reading.{Entered, no_entry, Informed, no_info}
 use Rattle.twobit.specs.declared.answers.Sized.{Sized}
-use Rattle.twobit.specs.declared.answers.Sized.TheVariants as Sized
 use Rattle.twobit.specs.declared.answers.Cursor.{Cursor}
-use Rattle.twobit.specs.declared.answers.Cursor.TheVariants as Cursor
 use Rattle.twobit.specs.declared.answers.Entry.{Entry}
-use Rattle.twobit.specs.declared.answers.Entry.TheVariants as Entry
 use Rattle.twobit.specs.declared.answers.Info.{Info}
-use Rattle.twobit.specs.declared.answers.Info.TheVariants as Info
 use Rattle.twobit.specs.declared.answers.Read.{Read}
-use Rattle.twobit.specs.declared.answers.Read.TheVariants as Read
 
 -- a count: of bytes, or of sequences
 abbrev pub sized_says : Sized → Answer ℕ

@@ -7,17 +7,11 @@ use Rattle.codes.specs.Refusals.{Answer, answer}
 use Rattle.codes.specs.declared.refusals.Outcome.TheVariants.{Done, Refused}
 use Rattle.twobit.specs.Reading.{block_count, size_at, masks_place, dna_place, is_record, name_size, offset_at, entry_end, is_big}
 use Rattle.twobit.specs.declared.inner.records.Table.{Table}
-use Rattle.twobit.specs.declared.inner.records.Table.TheVariants as Table
 use Rattle.twobit.specs.declared.inner.records.Parts.{Parts}
-use Rattle.twobit.specs.declared.inner.records.Parts.TheVariants as Parts
 use Rattle.twobit.specs.declared.inner.files.Header.{Header}
-use Rattle.twobit.specs.declared.inner.files.Header.TheVariants as Header
 use Rattle.twobit.specs.declared.inner.files.Indexed.{Indexed}
-use Rattle.twobit.specs.declared.inner.files.Indexed.TheVariants as Indexed
 use Rattle.twobit.specs.declared.inner.files.Behind.{Behind}
-use Rattle.twobit.specs.declared.inner.files.Behind.TheVariants as Behind
 use Rattle.twobit.specs.declared.inner.filling.Ready.{Ready}
-use Rattle.twobit.specs.declared.inner.filling.Ready.TheVariants as Ready
 
 -- how many blocks, and the byte behind them
 abbrev pub table_says : Table → Option (ℕ × ℕ)

@@ -23,7 +23,6 @@ use Rattle.twobit.specs.Answers.{sized_says}
 use Rattle.twobit.specs.Files.{header_size, entry_size, record_size}
 use Rattle.twowrite.specs.Writing.{writing, add_tests, add_outcome, added, add_answer, bad_state, unfinished, finish_answer}
 use Rattle.twobit.specs.declared.answers.Sized.{Sized}
-use Rattle.twobit.specs.declared.answers.Sized.TheVariants as Sized
 use Rattle.twowrite.specs.declared.answers.Writing.{Writing}
 
 -- k tests do not hold, nor does the next one

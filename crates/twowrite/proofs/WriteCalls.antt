@@ -15,7 +15,6 @@ use Rattle.codes.specs.declared.refusals.Outcome.TheVariants.{Done}
 use Rattle.codes.proofs.RefusalLaws.{outcome_at, outcome_at_number, says-once}
 use Rattle.twobit.specs.Files.{offset_size, names_size, index_end, file_of}
 use Rattle.twobit.specs.declared.answers.Sized.{Sized}
-use Rattle.twobit.specs.declared.answers.Sized.TheVariants as Sized
 use Rattle.twobit.proofs.Decided.{sized_told}
 use Rattle.twobit.proofs.ReadBack.{Near}
 use Rattle.twobit.proofs.ReadCalls.{AllRead}

@@ -6,7 +6,6 @@ ghost use Rattle.codes.specs.Words.{chars_of, packed};
 ghost use Rattle.codes.specs.declared.refusals.Outcome.TheVariants.{Done};
 ghost use Rattle.forms.specs.Reading.{spare_clear, filled_with};
 
-use bytes::copy;
 use codes::inner::counts::{byte_of, within_byte};
 use codes::inner::tracks::zero_run;
 use codes::units::{Chars, TRAILING};
@@ -83,6 +82,7 @@ pub(crate) fn fill(track: &[u8], buffer: &mut [u8])
     requires { length track.now + trailing ≤ length buffer.old }
     ensures { buffer.new ≡ filled_with track.now buffer.old }
 {
-    let n = copy(track, buffer);
+    let n = track.len();
+    buffer[..n].copy_from_slice(track);
     zero_run(buffer, n, n + TRAILING);
 }

@@ -10,7 +10,6 @@ ghost use Rattle.twobit.specs.Files.{entry_of, entry_size, record_of, record_siz
 ghost use Rattle.twowrite.specs.Writing.{add_tests, bad_state, far_record, writing};
 
 use crate::inner::numbers::put_number;
-use bytes::copy;
 use codes::inner::checks::{bad_view, too_long};
 use codes::refusals::Refusal;
 use codes::units::Chars;
@@ -72,7 +71,7 @@ fn write_name(name: &[u8], out: &mut [u8], at: usize)
     requires { at + length name.now ≤ length out.old }
     ensures { out.new ≡ sets out.old at name.now }
 {
-    copy(name, &mut out[at..]);
+    out[at..at + name.len()].copy_from_slice(name);
 }
 
 // Writes the entry of a name and of the record at byte `place`.
