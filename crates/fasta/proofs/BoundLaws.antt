@@ -7,7 +7,6 @@ use Rattle.fasta.specs.Records.{lengthened, ordinal, ambiguous_in, strand_in, ro
 use Rattle.fasta.specs.Steps.{Move, move, stepped, too_short, seen, line_end, ends_line, goes_on, line_used, begun, begun_held, in_header, in_line, in_line_held, at_line, next, ending, last_lines}
 use Rattle.fasta.specs.declared.reader.Record.{Record}
 use Rattle.fasta.specs.declared.reader.Reader.{Reader}
-use Rattle.fasta.specs.declared.reader.Reader.TheVariants as Reader
 use Rattle.fasta.specs.declared.reader.Stepped.{Stepped}
 use Rattle.fasta.proofs.LineLaws.{line_end_lem}
 use Rattle.fasta.proofs.RowLaws.{row_length, total_length}

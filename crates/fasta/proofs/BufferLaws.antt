@@ -9,7 +9,6 @@ use Rattle.fasta.specs.Steps.{line_end, line_letters, goes_on}
 use Rattle.fasta.specs.Buffers.{line_track, held_track, track_after, other_after}
 use Rattle.fasta.specs.declared.reader.Record.{Record}
 use Rattle.fasta.specs.declared.reader.Reader.{Reader}
-use Rattle.fasta.specs.declared.reader.Reader.TheVariants as Reader
 use Rattle.fasta.proofs.HoldLaws.{push_nothing, push_length}
 
 -- nothing to look at: the buffers stay

@@ -9,7 +9,6 @@ use Rattle.fasta.specs.Steps.{Move, move, stepped, seen, goes_on, in_line, in_li
 use Rattle.fasta.specs.Buffers.{onto, line_track, track_after, other_after, end_marked, other_at_end}
 use Rattle.fasta.specs.declared.reader.Record.{Record}
 use Rattle.fasta.specs.declared.reader.Reader.{Reader}
-use Rattle.fasta.specs.declared.reader.Reader.TheVariants as Reader
 use Rattle.fasta.specs.declared.reader.Stepped.{Stepped}
 use Rattle.fasta.proofs.BoundLaws.{row_from-length, seen_all}
 use Rattle.fasta.proofs.BufferLaws.{track_none, other_none}

@@ -7,7 +7,6 @@ use Rattle.fasta.specs.Report.{heading, report}
 use Rattle.fasta.specs.Steps.{Move, too_short, seen, next, started, last_lines}
 use Rattle.fasta.specs.Buffers.{onto, track_after}
 use Rattle.fasta.specs.declared.reader.Reader.{Reader}
-use Rattle.fasta.specs.declared.reader.Reader.TheVariants as Reader
 use Rattle.fasta.proofs.Rest.{State, start, ended, rest, records_before, Leads}
 use Rattle.fasta.proofs.Meaning.{Sized, Reads, Onward}
 use Rattle.fasta.proofs.BoundLaws.{next_bounded}

@@ -9,7 +9,6 @@ use Rattle.fasta.specs.Steps.{Move, too_short, next, started, last_lines}
 use Rattle.fasta.specs.Buffers.{onto}
 use Rattle.fasta.specs.Feeds.{Way, ahead, further, along, feeding, then_after, fed, behind, Leaves, at_end}
 use Rattle.fasta.specs.declared.reader.Reader.{Reader}
-use Rattle.fasta.specs.declared.reader.Reader.TheVariants as Reader
 use Rattle.fasta.specs.declared.feeds.Then.TheVariants as Then
 use Rattle.fasta.specs.declared.feeds.Fed.{Fed}
 use Rattle.fasta.proofs.Rest.{ended, rest}

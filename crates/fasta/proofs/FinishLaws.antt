@@ -6,7 +6,6 @@ use Rattle.fasta.specs.Records.{opened, ordinal, closed}
 use Rattle.fasta.specs.Steps.{ending}
 use Rattle.fasta.specs.declared.reader.Record.{Record}
 use Rattle.fasta.specs.declared.reader.Reader.{Reader}
-use Rattle.fasta.specs.declared.reader.Reader.TheVariants as Reader
 use Rattle.fasta.proofs.Rest.{State, start, start_held, header, fresh, within, within_held, rest, records_before}
 use Rattle.fasta.proofs.Meaning.{Holds, Reads}
 use Rattle.fasta.proofs.HoldLaws.{holds_none}

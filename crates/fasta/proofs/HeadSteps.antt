@@ -6,7 +6,6 @@ use Rattle.codes.specs.Codes.{pick}
 use Rattle.fasta.specs.Records.{opened}
 use Rattle.fasta.specs.Steps.{Move, move, line_end, ends_line, line_used, refusing, begun, begun_held, in_header}
 use Rattle.fasta.specs.declared.reader.Reader.{Reader}
-use Rattle.fasta.specs.declared.reader.Reader.TheVariants as Reader
 use Rattle.fasta.proofs.Rest.{State, start, start_held, header, fresh, ended}
 use Rattle.fasta.proofs.Meaning.{From, Onward}
 use Rattle.fasta.proofs.HoldLaws.{holds_none}

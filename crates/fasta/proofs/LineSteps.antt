@@ -10,7 +10,6 @@ use Rattle.fasta.specs.Steps.{Move, move, ends_line, line_letters, ends_in_retur
 use Rattle.fasta.specs.Buffers.{line_track, held_track, track_after}
 use Rattle.fasta.specs.declared.reader.Record.{Record}
 use Rattle.fasta.specs.declared.reader.Reader.{Reader}
-use Rattle.fasta.specs.declared.reader.Reader.TheVariants as Reader
 use Rattle.fasta.proofs.Rest.{State, header, fresh, within, within_held, rest, records_before, Leads}
 use Rattle.fasta.proofs.Meaning.{Sized, Holds, From, Onward}
 use Rattle.fasta.proofs.HoldLaws.{push_length, lengthens}

@@ -5,7 +5,6 @@ use Rattle.codes.specs.Codes.{chars, lossy, flag}
 use Rattle.fasta.specs.Steps.{Move}
 use Rattle.fasta.specs.declared.reader.Record.{Record}
 use Rattle.fasta.specs.declared.reader.Reader.{Reader}
-use Rattle.fasta.specs.declared.reader.Reader.TheVariants as Reader
 use Rattle.fasta.proofs.Rest.{State, start, start_held, header, fresh, within, within_held, ended, records_before, Leads}
 
 -- the buffers of the two tracks have room for 16,384 letters

@@ -4,7 +4,6 @@ use Rattle.std.proofs.Common.{ℕ, List, [], ◌∷◌, take, arith}
 use Rattle.fasta.specs.Steps.{next}
 use Rattle.fasta.specs.Buffers.{track_after}
 use Rattle.fasta.specs.declared.reader.Reader.{Reader}
-use Rattle.fasta.specs.declared.reader.Reader.TheVariants as Reader
 use Rattle.fasta.proofs.Meaning.{Sized, Onward}
 use Rattle.fasta.proofs.LeadLaws.{leads_none}
 use Rattle.fasta.proofs.BufferLaws.{track_none}

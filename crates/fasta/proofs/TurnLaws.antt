@@ -8,10 +8,8 @@ use Rattle.fasta.specs.Steps.{Move, stepped, too_short, seen, next, last_lines}
 use Rattle.fasta.specs.Buffers.{onto, track_after, other_after, other_at_end}
 use Rattle.fasta.specs.Feeds.{Way, ahead, further, along, then_after, fed, behind, Leaves, at_end}
 use Rattle.fasta.specs.declared.reader.Reader.{Reader}
-use Rattle.fasta.specs.declared.reader.Reader.TheVariants as Reader
 use Rattle.fasta.specs.declared.reader.Stepped.{Stepped}
 use Rattle.fasta.specs.declared.feeds.Then.{Then}
-use Rattle.fasta.specs.declared.feeds.Then.TheVariants as Then
 use Rattle.fasta.specs.declared.feeds.Fed.{Fed}
 use Rattle.fasta.proofs.BoundLaws.{answer-bounded}
 use Rattle.fasta.proofs.FeedLaws.{way, Within, first_within, further-within, along-over, behind_length, front_length, behind_none}

@@ -8,7 +8,6 @@ use Rattle.fasta.specs.Records.{opened, lengthened, marked}
 use Rattle.fasta.specs.Steps.{too_short, line_letters, goes_on}
 use Rattle.fasta.specs.declared.reader.Record.{Record}
 use Rattle.fasta.specs.declared.reader.Reader.{Reader}
-use Rattle.fasta.specs.declared.reader.Reader.TheVariants as Reader
 
 -- out: the bytes written at its front, then its own
 abbrev pub onto : List ℕ → List ℕ → List ℕ

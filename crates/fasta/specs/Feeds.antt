@@ -5,9 +5,7 @@ use Rattle.codes.specs.Codes.{pick}
 use Rattle.fasta.specs.Steps.{Move, move, too_short, seen, next, last_lines}
 use Rattle.fasta.specs.Buffers.{track_after, other_after}
 use Rattle.fasta.specs.declared.reader.Reader.{Reader}
-use Rattle.fasta.specs.declared.reader.Reader.TheVariants as Reader
 use Rattle.fasta.specs.declared.feeds.Then.{Then}
-use Rattle.fasta.specs.declared.feeds.Then.TheVariants as Then
 use Rattle.fasta.specs.declared.feeds.Fed.{Fed}
 
 -- a feed on its way: what it has done so far, its tracks, and the buffer lent for the reverse complement

@@ -6,7 +6,6 @@ use Rattle.fasta.specs.Report.{heading, refused_text, content, is_header, total_
 use Rattle.fasta.specs.Records.{opened, lengthened, ordinal, row_from, closed}
 use Rattle.fasta.specs.declared.reader.Record.{Record}
 use Rattle.fasta.specs.declared.reader.Reader.{Reader}
-use Rattle.fasta.specs.declared.reader.Reader.TheVariants as Reader
 use Rattle.fasta.specs.declared.reader.Stepped.{Stepped}
 
 -- what a call does: the next reader, the bytes that it takes, and those that it writes

@@ -12,7 +12,7 @@ use Rattle.codes.specs.Codes.{IsWidth, per, up, trailing, char_at, chars, comple
 use Rattle.codes.specs.Refusals.{answer, if_done}
 use Rattle.codes.specs.Words.{packed}
 use Rattle.codes.specs.declared.refusals.Outcome.{Outcome}
-use Rattle.codes.specs.declared.refusals.Outcome.TheVariants.{Done, Refused}
+use Rattle.codes.specs.declared.refusals.Outcome.TheVariants.{Done}
 use Rattle.codes.specs.declared.refusals.Refusal.{Refusal}
 use Rattle.codes.specs.declared.units.Chars.{Chars}
 use Rattle.codes.proofs.CharLaws.{length-chars, chars-ext, chars-fit, length-pack, unpacked}
@@ -26,7 +26,6 @@ use Rattle.fields.specs.Fields.{flipped}
 use Rattle.writes.specs.Writes.{flip_outcome, flipped_over}
 use Rattle.order.specs.declared.answers.Order.{Order}
 use Rattle.order.specs.declared.answers.Compared.{Compared}
-use Rattle.order.specs.declared.answers.Compared.TheVariants as Compared
 
 -- a view of the front of a buffer
 chars-front : {w : ℕ} → IsWidth w → (xs ys : List ℕ) (n : ℕ) → n ≤ length xs * per w → chars w (xs ++ ys) 0 n ≡ chars w xs 0 n
