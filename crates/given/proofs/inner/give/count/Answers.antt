@@ -1,0 +1,14 @@
+-- By the answer's case. Assumes nothing.
+use mathlib.Core.Path.{sym, ap, ◌∙◌}
+use Rattle.counts.specs.Answers.{count_says}
+use Rattle.given.proofs.Said.{said-no}
+use Rattle.given.proofs.inner.give.count.Goals as goal
+
+pub refusal_no-requires : goal.refusal_no-requires
+refusal_no-requires c = tt
+
+pub returns-in-Is : goal.returns-in-Is
+returns-in-Is c = sym (ap count_says c.in-Is.is)
+
+pub returns-in-Refused : goal.returns-in-Refused
+returns-in-Refused c = said-no _ c.refusal_no.ensures ∙ sym (ap count_says c.in-Refused.is)
