@@ -1,0 +1,16 @@
+-- By what the call answers, and what is made of its answer. Assumes nothing.
+use mathlib.Core.Path.{◌∙◌}
+use Rattle.face.proofs.inner.stream.shape.Goals as goal
+
+pub new-requires : goal.new-requires
+new-requires c = tt
+
+pub new-requires-2 : goal.new-requires-2
+new-requires-2 c = tt
+
+pub returns : goal.returns
+returns c =
+    let new = c.new.ensures in
+    let new2 = c.new-2.ensures in
+    let answer = rw (new, new2) at c.shape.ensures in
+    c.shape-2.ensures ∙ answer

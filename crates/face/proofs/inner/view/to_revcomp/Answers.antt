@@ -1,0 +1,11 @@
+-- By what the call answers, and what is made of its answer. Assumes nothing.
+use Rattle.face.proofs.inner.view.to_revcomp.Goals as goal
+
+pub new-requires : goal.new-requires
+new-requires c = tt
+
+pub new-requires-2 : goal.new-requires-2
+new-requires-2 c = tt
+
+pub no-requires : goal.no-requires
+no-requires c = tt
