@@ -1,0 +1,1 @@
+-- By what the call answers, and what is made of its answer. Assumes nothing.

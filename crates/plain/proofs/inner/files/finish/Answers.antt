@@ -1,0 +1,12 @@
+-- By what the call answers, and what is made of its answer. Assumes nothing.
+use mathlib.Core.Path.{◌∙◌}
+use Rattle.plain.proofs.inner.files.finish.Goals as goal
+
+pub finish-requires : goal.finish-requires
+finish-requires c = tt
+
+pub sized-requires : goal.sized-requires
+sized-requires c = tt
+
+pub returns : goal.returns
+returns c = c.sized.ensures ∙ c.finish.ensures

@@ -1,0 +1,12 @@
+-- By what the call answers, and what is made of its answer. Assumes nothing.
+use mathlib.Core.Path.{◌∙◌}
+use Rattle.plain.proofs.inner.files.first.Goals as goal
+
+pub first-requires : goal.first-requires
+first-requires c = tt
+
+pub cursor-requires : goal.cursor-requires
+cursor-requires c = tt
+
+pub returns : goal.returns
+returns c = c.cursor.ensures ∙ c.first.ensures

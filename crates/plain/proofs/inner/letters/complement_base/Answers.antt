@@ -1,0 +1,14 @@
+-- By what the call answers, and what is made of its answer. Assumes nothing.
+use mathlib.Core.Path.{◌∙◌}
+use Rattle.plain.proofs.inner.letters.complement_base.Goals as goal
+
+pub complement_base-requires : goal.complement_base-requires
+complement_base-requires c = tt
+
+pub symbol-requires : goal.symbol-requires
+symbol-requires c = tt
+
+pub returns : goal.returns
+returns c =
+    let answer = c.complement_base.ensures in
+    c.symbol.ensures ∙ answer
