@@ -8,7 +8,7 @@
 # make interop  .2bit files exchanged with other programs, which it installs where they are missing
 
 FASTA = samples/reads.fa
-SOURCES := $(shell find crates -name '*.rt' -o -name '*.antt')
+SOURCES := $(shell find crates -name out -prune -o \( -name '*.rt' -o -name '*.antt' \) -print)
 LIB = target/tsivelaro/lib/libtsivelaro.a
 
 .PHONY: test run lib install oracle bench fuzz interop
@@ -21,8 +21,7 @@ run: target/bin/screen
 
 target/bin/screen: crates.txt $(SOURCES)
 	@mkdir -p target
-	@tools/watch target/screen.log rt check screen
-	@touch $@
+	@tools/watch target/screen.log tools/program screen
 
 lib: $(LIB)
 
