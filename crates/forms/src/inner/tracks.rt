@@ -77,12 +77,22 @@ pub(crate) fn spare_clear(w: usize, n: usize, track: &[u8]) -> bool
     track[last] >> (w * k) == 0
 }
 
+// Copies bytes to the front of a buffer.
+pub fn copy(from: &[u8], to: &mut [u8])
+    requires { length from.now ≤ length to.old }
+    ensures { to.new ≡ from.now ++ drop (length from.now) to.old }
+{
+    for i in 0..from.len() {
+        to[i] = from[i];
+    }
+}
+
 // Writes a track into a store's buffer, and 48 zeros behind it.
 pub(crate) fn fill(track: &[u8], buffer: &mut [u8])
     requires { length track.now + trailing ≤ length buffer.old }
     ensures { buffer.new ≡ filled_with track.now buffer.old }
 {
     let n = track.len();
-    buffer[..n].copy_from_slice(track);
+    copy(track, buffer);
     zero_run(buffer, n, n + TRAILING);
 }

@@ -15,6 +15,7 @@ use codes::refusals::Refusal;
 use codes::units::Chars;
 use dna::inner::writing::write_dna;
 use fields::inner::runs::{count_runs, run_end};
+use forms::inner::tracks::copy;
 use twobit::answers::Sized;
 
 // Writes the starts of the runs, then their sizes.
@@ -71,7 +72,7 @@ fn write_name(name: &[u8], out: &mut [u8], at: usize)
     requires { at + length name.now ≤ length out.old }
     ensures { out.new ≡ sets out.old at name.now }
 {
-    out[at..at + name.len()].copy_from_slice(name);
+    copy(name, &mut out[at..]);
 }
 
 // Writes the entry of a name and of the record at byte `place`.
