@@ -78,7 +78,7 @@ def read(path):
 
 given = dict(enumerate(sys.argv[1:]))
 sources = sorted(glob.glob("crates/abi/src/**/*.rt", recursive=True))
-exported = rust("\n".join(map(read, sources)), r'#\[no_mangle\]\s+pub extern "C" ')
+exported = rust("\n".join(map(read, sources)), r'#\[unsafe\(no_mangle\)\]\s+pub extern "C" ')
 faces = {
     "the header": header(read(given.get(0, "include/tsivelaro.h"))),
     "the Rust face": rust(read(given.get(1, "bindings/rust/src/sys.rs")), "pub "),
