@@ -1,4 +1,4 @@
--- The packed bases of a.2bit file: T=0, C=1, A=2, G=3, four to a byte, the first base in the highest bits.
+-- The packed bases of a .2bit file: T=0, C=1, A=2, G=3, four to a byte, the first base in the highest bits.
 -- Assumes nothing.
 use Rattle.std.specs.Prelude.{List, [], ◌∷◌, map, reverse, ℕ, ◌+◌, ◌-◌, ◌*◌, ◌/◌, ◌%◌, ◌^◌, eqb, length, get_or}
 use Rattle.codes.specs.Codes.{up, pick, tab}

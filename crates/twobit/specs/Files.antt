@@ -1,4 +1,4 @@
--- A.2bit file: the header, the index of names and offsets, then a record for each sequence, as bytes.
+-- A .2bit file: the header, the index of names and offsets, then a record for each sequence, as bytes.
 -- Assumes nothing.
 use Rattle.std.specs.Prelude.{Bool, List, [], ◌∷◌, ◌++◌, ℕ, suc, ◌+◌, ◌*◌, length}
 use Rattle.codes.specs.Codes.{up}

@@ -332,7 +332,7 @@ form_lines : FormLines
 unfolding is_form head_of form_length spelt spelling chars char_at tab
 form_lines = (refl, refl, refl, refl, λ bs. refl, λ bs. refl, refl, refl, refl, refl, refl, refl, refl, refl, refl, refl, refl)
 
--- a.2bit file: 16 bytes of header, the signature, version 0; 2^32 sequences, a record's offset; a name of 255 bytes; the index, and room for it
+-- a .2bit file: 16 bytes of header, the signature, version 0; 2^32 sequences, a record's offset; a name of 255 bytes; the index, and room for it
 abbrev pub FileLines : Type 0
 FileLines =
     (good_header (header_of false 0 0) ≡ true)

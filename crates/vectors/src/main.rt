@@ -11,6 +11,7 @@ use std::io::{BufWriter, Write};
 
 fn main(rt: HostRuntime) -> io::Result<()> {
     let mut to = BufWriter::new(rt.alloc(), rt.stdout())?;
-    lines::run_all(&mut rt.stdin(), &mut to)?;
-    to.flush()
+    let ran = lines::run_all(&mut rt.stdin(), &mut to);
+    to.flush()?;
+    ran
 }
