@@ -58,7 +58,7 @@ unfoldable pub strand : List ℕ → ℕ
 unfolding strand_of
 strand letters = strand_of (map lossy letters)
 
--- what stands behind a record's number: its columns, or `too_long` over 16,384 letters
+-- what stands behind a record's number: its columns, or `too-long` over 16,384 letters
 unfoldable pub body : ℕ → ℕ → ℕ → List ℕ
 unfolding columns
 body count ambiguous mark = pick (nat_lt 16384 count) too_long_text (columns count ambiguous mark)

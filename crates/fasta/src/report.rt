@@ -9,7 +9,7 @@ use fields::inner::flags::set_flags;
 use rows::inner::puts::{put_byte, put_columns, put_decimal, put_text};
 use rows::inner::strands::strand;
 
-// What stands behind a record's number: its columns, or `too_long`.
+// What stands behind a record's number: its columns, or `too-long`.
 fn put_body(
     kept: Record,
     bases: &[u8; BASES],
