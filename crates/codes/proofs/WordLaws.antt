@@ -63,7 +63,8 @@ chars_of-fit w (suc k) x = (mod-lt x (pow_pos w), chars_of-fit w k (x / 2 ^ w))
 -- only the k low characters count
 pub chars_of-mod : (w k x : ℕ) → chars_of w k (x % 2 ^ (w * k)) ≡ chars_of w k x
 chars_of-mod w k x =
-    ap (chars_of w k) (sym (word-chars_of w k x)) ∙ subst (λ (n : ℕ). chars_of w n (word w (chars_of w k x)) ≡ chars_of w k x) (length-chars_of w k x) (chars_of-word w (chars_of w k x) (chars_of-fit w k x))
+    ap (chars_of w k) (sym (word-chars_of w k x))
+    ∙ subst (λ (n : ℕ). chars_of w n (word w (chars_of w k x)) ≡ chars_of w k x) (length-chars_of w k x) (chars_of-word w (chars_of w k x) (chars_of-fit w k x))
 
 pub Below-append : (w : ℕ) (a b : List ℕ) → Below w a → Below w b → Below w (a ++ b)
 Below-append w [] b h l = l

@@ -56,7 +56,8 @@ module _ (w : ℕ) (s : Span) (ao al : ℕ) (t : Span) (bo bl : ℕ) where
   unfolding least_part chosen
   least_place = by_case (pair_outcome w s.bytes ao al t.bytes bo bl) (is_second (pair_order w s.bytes ao al t.bytes bo bl))
     where
-      by_case : (q : Outcome) (b : Bool) → lent_in (answer q (pick b (true, part_of w bo bl) (false, part_of w ao al)) (false, no_part)) ≡ answer q (pick b (normal w t bo bl) (normal w s ao al)) (empty s)
+      by_case : (q : Outcome) (b : Bool) → lent_in (answer q (pick b (true, part_of w bo bl) (false, part_of w ao al)) (false, no_part)) ≡ answer q
+          (pick b (normal w t bo bl) (normal w s ao al)) (empty s)
       by_case Done true = refl
       by_case Done false = refl
       by_case (Refused r) b = refl

@@ -84,7 +84,8 @@ module _ (k : Record) (part bases flags other out : List ℕ) where
           (refl, (refl, (o, put_onto q (omega (arith, row_from-length k bases flags))))),
         )
 
-    pub goes_on_lem : (r : Stepped) (bases' flags' : List ℕ) → (get_or part 0 0 ≡ 62 → ⊥) → (r ≡ stepped (in_line k part)) × ((bases' ≡ line_track 2 k part bases) × (flags' ≡ line_track 1 k part flags))
+    pub goes_on_lem : (r : Stepped) (bases' flags' : List ℕ) → (get_or part 0 0 ≡ 62 → ⊥)
+        → (r ≡ stepped (in_line k part)) × ((bases' ≡ line_track 2 k part bases) × (flags' ≡ line_track 1 k part flags))
         → AtLine r bases' flags' other out
     unfolding at_line track_after other_after in_line
     goes_on_lem r bases' flags' b f =

@@ -79,7 +79,8 @@ pub record Readable (bs : List ℕ) (m n len body : ℕ) : Type 0 where
   pub base_room : up 2 len + trailing ≤ m
   pub flag-room : up 1 len + trailing ≤ n
 
-pub readable : (bs : List ℕ) (m n len body : ℕ) → answer {A = ℕ × ℕ} Done (len, body) (0, 0) ≡ answer (first (read_tests bs m n)) (form_length bs, body_of (head_of bs)) (0, 0) → Readable bs m n len body
+pub readable : (bs : List ℕ) (m n len body : ℕ) → answer {A = ℕ × ℕ} Done (len, body) (0, 0) ≡ answer (first (read_tests bs m n)) (form_length bs, body_of (head_of bs)) (0, 0)
+    → Readable bs m n len body
 readable bs m n len body e =
     let o = answer-outcome Done (first (read_tests bs m n)) (len, body) (form_length bs, body_of (head_of bs)) (0, 0) (0, 0) e in
     let v = answer-values (len, body) (form_length bs, body_of (head_of bs)) (0, 0) (0, 0) (e ∙ ap (λ (p : Outcome). answer p (form_length bs, body_of (head_of bs)) (0, 0)) (sym o)) in

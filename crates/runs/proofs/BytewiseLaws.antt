@@ -109,7 +109,8 @@ module _ {x : ℕ} where
       where
         less : (g : ℕ → ℕ) → Fits g → word 8 (map g (bytes x)) < 2 ^ 64
         less g h =
-            subst (λ (n : ℕ). word 8 (map g (bytes x)) < 2 ^ (8 * n)) (length-map (bytes x) g ∙ length-chars_of 8 8 x) (word_lt 8 (map g (bytes x)) (Below-through 8 g h (bytes x) (chars_of-fit 8 8 x)))
+            subst (λ (n : ℕ). word 8 (map g (bytes x)) < 2 ^ (8 * n)) (length-map (bytes x) g
+            ∙ length-chars_of 8 8 x) (word_lt 8 (map g (bytes x)) (Below-through 8 g h (bytes x) (chars_of-fit 8 8 x)))
 
     -- where no bit leaves its byte, which is tested
     pub each-shr : (s : ℕ) → tab 256 f ≡ tab 256 (λ b. f b / 2 ^ s * 2 ^ s) → Each x (λ b. f b / 2 ^ s) (y / 2 ^ s)

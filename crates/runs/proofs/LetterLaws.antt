@@ -87,7 +87,8 @@ module _ {w : ℕ} (W : IsWidth w) where
             ∙ ap (λ (x : ℕ). nth w x i) vs
             ∙ shl_nth (letters_word w p ls 0) k i h m
             ∙ letters_nth p ls 0 (i - k) (omega arith)
-            ∙ sym (splice-new _ at cs stop (j * p + i) (omega arith) (omega arith) ∙ get_or-codes w ls (j * p + i - at) (omega (arith, per-le W)) ∙ ap (λ (x : ℕ). code w (get_or ls x 0)) (omega arith)))
+            ∙ sym (splice-new _ at cs stop (j * p + i) (omega arith) (omega arith) ∙ get_or-codes w ls (j * p + i - at) (omega (arith, per-le W))
+            ∙ ap (λ (x : ℕ). code w (get_or ls x 0)) (omega arith)))
 
     -- the byte of the end, where letters stand in it: zeros up to `stop`, and the characters from there on stay
     pub made-last : {n k v b : ℕ} {d e : List ℕ} → n ≡ end % p → 0 < n → v ≡ letters_word w p ls (length ls - p) / 2 ^ (w * (p - n)) % 2 ^ 8 → b ≡ end / p → at ≤ b * p

@@ -24,7 +24,8 @@ module _ (w : ℕ) (ls : List ℕ) where
   letters_two m i lo hi p q =
       let f : ℕ → ℕ = λ k. code w (get_or ls (i + k) 0) in
       add_comm lo (hi * 2 ^ (w * m))
-      ∙ ap₂ (λ (a b : ℕ). a * 2 ^ (w * m) + b) (q ∙ ap (word w) (tab-ext m (λ k. code w (get_or ls (i + m + k) 0)) (λ k. f (m + k)) (λ k h. ap (λ (x : ℕ). code w (get_or ls x 0)) (add_assoc i m k)))) p
+      ∙ ap₂ (λ (a b : ℕ). a * 2 ^ (w * m) + b) (q
+      ∙ ap (word w) (tab-ext m (λ k. code w (get_or ls (i + m + k) 0)) (λ k. f (m + k)) (λ k h. ap (λ (x : ℕ). code w (get_or ls x 0)) (add_assoc i m k)))) p
       ∙ sym (ap (word w) (tab-append m m f) ∙ word-append w (tab m f) (tab m (λ k. f (m + k))) ∙ ap (λ (e : ℕ). word w (tab m (λ k. f (m + k))) * 2 ^ (w * e) + word w (tab m f)) (length-tab m f))
 
 pub letters_lt : {w : ℕ} → IsWidth w → (n : ℕ) (ls : List ℕ) (i : ℕ) → letters_word w n ls i < 2 ^ (w * n)

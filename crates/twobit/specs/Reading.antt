@@ -134,7 +134,9 @@ module _ (k : ℕ) (file : List ℕ) (number at : ℕ) where
   unfoldable pub entry_answer : Answer Entered
   unfolding entry_outcome offset_at
   entry_answer =
-      answer entry_outcome ((suc at, name_size (is_big file) file at), (offset_at (is_big file) file k at, (suc number, entry_end (is_big file) file k at))) no_entry
+      answer entry_outcome
+      ((suc at, name_size (is_big file) file at), (offset_at (is_big file) file k at, (suc number, entry_end (is_big file) file k at)))
+      no_entry
 
 -- ---- record_info: the size of the sequence of the record at byte r, and how many N blocks and mask blocks it has
 

@@ -48,7 +48,8 @@ module _ (bs : List ℕ) (o len c k skip : ℕ) where
     pub windows_after_refused : (x : Refusal) → r ≡ Filled.Refused x → out ≡ windows_after bs o len c k skip out
     unfolding windows_after
     windows_after_refused x q =
-        sym (ap (λ (u : Outcome). if_done u (windows_filled (chars 1 bs o len) (lane 1 len c 1) k skip (steps 1 len c 1 - skip) out) out) (sym (windows_outcome_lem (length out) r said) ∙ ap outcome_of q))
+        sym (ap (λ (u : Outcome). if_done u (windows_filled (chars 1 bs o len) (lane 1 len c 1) k skip (steps 1 len c 1 - skip) out) out)
+        (sym (windows_outcome_lem (length out) r said) ∙ ap outcome_of q))
 
     -- and others fill it
     pub windows_after_done : (s : ℕ) (p : Chars) → r ≡ Filled.Is s p → windows_filled (chars 1 bs o len) (lane 1 len c 1) k skip (steps 1 len c 1 - skip) out ≡ windows_after bs o len c k skip out

@@ -6,4 +6,5 @@ use Rattle.counts.proofs.flags.clear.Goals as goal
 pub returns : goal.returns
 returns c =
     let a = c.args in
-    let plain = clear-plain a.buffer.now 0 a.entries.now in record { says = c.clear.ensures.says ∙ plain.0; bytes = c.clear.ensures.bytes ∙ plain.1; entries = clear-entries a.buffer.now 0 a.entries.now }
+    let plain = clear-plain a.buffer.now 0 a.entries.now in
+    record { says = c.clear.ensures.says ∙ plain.0; bytes = c.clear.ensures.bytes ∙ plain.1; entries = clear-entries a.buffer.now 0 a.entries.now }

@@ -13,11 +13,9 @@ use Rattle.counts.proofs.flags.count.Goals as goal
 
 pub count_range-requires : goal.count_range-requires
 count_range-requires c =
-    let t = c in
-    let o = t in
-    let a = o.args in
+    let a = c.args in
     let m : ℕ = length a.buffer.now in
-    let p = done_passed (query_tests m a.len.0 (length a.entries.now) a.start.0 a.end.0) (sym t.in-Done.is ∙ o.query_outcome-outcome.ensures) in
+    let p = done_passed (query_tests m a.len.0 (length a.entries.now) a.start.0 a.end.0) (sym c.in-Done.is ∙ c.query_outcome-outcome.ensures) in
     let small : m ≤ 2 ^ 28 = ltb-false (2 ^ 28) m p.0 in
     let sound : up 1 a.len.0 + trailing ≤ m = ltb-false m (up 1 a.len.0 + trailing) p.1.0 in
     let ends : a.end.0 ≤ a.len.0 = ltb-false a.len.0 a.end.0 p.1.1.0 in
@@ -32,9 +30,7 @@ returns-in-Refused c = answer_refused _ _ _ 0 (sym c.query_outcome-outcome.ensur
 pub returns-in-Done : goal.returns-in-Done
 unfolding queried
 returns-in-Done c =
-    let t = c in
-    let o = t in
-    let a = o.args in
-    answer_done _ _ _ 0 (sym o.query_outcome-outcome.ensures ∙ t.in-Done.is)
+    let a = c.args in
+    answer_done _ _ _ 0 (sym c.query_outcome-outcome.ensures ∙ c.in-Done.is)
     (c.count_range.ensures
     ∙ (λ i. range_count a.entries.now (chars 1 a.buffer.now 0 (c.count.ensures i)) (c.count-in-Done.ensures i) (c.count-in-Done-2.ensures i)))

@@ -40,16 +40,15 @@ module _ (c : After-blocks_of) where
 
 pub returns-in-Refused : goal.returns-in-Refused
 returns-in-Refused c =
-    let k = c in
-    let a = k.args in
+    let a = c.args in
     let q = left_refused a.buffer.now a.len.0 a.entries.now (cut a.m.0) (judged (goal.at.returns-in-Refused c).After-end_outcome-outcome) c.in-Refused.is in
     record { says = q.0; bytes = q.1.0; entries = q.1.1 }
 
 pub returns-then-entries-blocks_of : goal.returns-then-entries-blocks_of
 returns-then-entries-blocks_of c =
-    let k = c in
-    let a = k.args in
-    let q = left_few a.buffer.now a.len.0 a.entries.now (cut a.m.0) (judged (goal.at.returns-then-entries-blocks_of c).After-end_outcome-outcome) k.in_default.is (omega (arith, c.if-entries-blocks_of.true, blocks-are (goal.at.returns-then-entries-blocks_of c).After-blocks_of)) in
+    let a = c.args in
+    let q = left_few a.buffer.now a.len.0 a.entries.now (cut a.m.0) (judged (goal.at.returns-then-entries-blocks_of c).After-end_outcome-outcome) c.in_default.is
+    (omega (arith, c.if-entries-blocks_of.true, blocks-are (goal.at.returns-then-entries-blocks_of c).After-blocks_of)) in
     record { says = q.0; bytes = q.1.0; entries = q.1.1 }
 
 pub recount-requires : goal.recount-requires
@@ -60,15 +59,11 @@ recount-requires c =
 
 pub returns : goal.returns
 returns c =
-    let r = c in
-    let n = r in
-    let d = n in
-    let e = d in
-    let k = e in
-    let a = k.args in
+    let a = c.args in
     let bs = a.buffer.now in
-    let q = left_done bs a.len.0 a.entries.now (cut a.m.0) (judged (goal.at.returns c).After-end_outcome-outcome) k.in_default.is (omega (arith, e.if-entries-blocks_of.false, blocks-are (goal.at.returns c).After-blocks_of)) (d.cut-kept.ensures.says, d.cut-kept.ensures.bytes)
-    (r.recount.ensures
-    ∙ (λ i. recounted a.entries.now (count_is (goal.at.returns c).After-blocks_of i, n.count.ensures i) (chars 1 (d.cut-kept.ensures.bytes i) 0 (count_is (goal.at.returns c).After-blocks_of i)))
+    let q = left_done bs a.len.0 a.entries.now (cut a.m.0) (judged (goal.at.returns c).After-end_outcome-outcome) c.in_default.is
+    (omega (arith, c.if-entries-blocks_of.false, blocks-are (goal.at.returns c).After-blocks_of)) (c.cut-kept.ensures.says, c.cut-kept.ensures.bytes)
+    (c.recount.ensures
+    ∙ (λ i. recounted a.entries.now (count_is (goal.at.returns c).After-blocks_of i, c.count.ensures i) (chars 1 (c.cut-kept.ensures.bytes i) 0 (count_is (goal.at.returns c).After-blocks_of i)))
     ∙ touched-cut a.entries.now a.len.0 (new_flags bs a.len.0 (cut a.m.0)) a.m.0 (within (goal.at.returns c).After-blocks_of)) in
     record { says = q.0; bytes = q.1.0; entries = q.1.1 }

@@ -36,22 +36,19 @@ module _ (c : After-blocks_of) where
 
 pub returns-in-Refused : goal.returns-in-Refused
 returns-in-Refused c =
-    let k = c in
-    let a = k.args in
+    let a = c.args in
     let q = left_refused a.buffer.now a.len.0 a.entries.now (overwrite a.start.0 a.letters.now) (judged (goal.at.returns-in-Refused c).After-end_outcome-outcome) c.in-Refused.is in
     record { says = q.0; bytes = q.1.0; entries = q.1.1 }
 
 pub returns-then-entries-blocks_of : goal.returns-then-entries-blocks_of
 returns-then-entries-blocks_of c =
-    let k = c in
-    let a = k.args in
-    let q = left_few a.buffer.now a.len.0 a.entries.now (overwrite a.start.0 a.letters.now) (judged (goal.at.returns-then-entries-blocks_of c).After-end_outcome-outcome) k.in_default.is
+    let a = c.args in
+    let q = left_few a.buffer.now a.len.0 a.entries.now (overwrite a.start.0 a.letters.now) (judged (goal.at.returns-then-entries-blocks_of c).After-end_outcome-outcome) c.in_default.is
     (omega (arith, c.if-entries-blocks_of.true, blocks-are (goal.at.returns-then-entries-blocks_of c).After-blocks_of)) in
     record { says = q.0; bytes = q.1.0; entries = q.1.1 }
 
 pub overflow_add-at : goal.overflow_add-at
 overflow_add-at c =
-    let e = c in
     omega (arith, c.count-at.ensures, end (goal.at.overflow_add-at c).After-blocks_of, (room (goal.at.overflow_add-at c).After-blocks_of).0, (room (goal.at.overflow_add-at c).After-blocks_of).1)
 
 pub recount-requires : goal.recount-requires
@@ -63,16 +60,12 @@ recount-requires c =
 
 pub returns : goal.returns
 returns c =
-    let r = c in
-    let n = r in
-    let d = n in
-    let e = d in
-    let k = e in
-    let a = k.args in
+    let a = c.args in
     let bs = a.buffer.now in
     let ls = a.letters.now in
-    let q = left_done bs a.len.0 a.entries.now (overwrite a.start.0 ls) (judged (goal.at.returns c).After-end_outcome-outcome) k.in_default.is (omega (arith, e.if-entries-blocks_of.false, blocks-are (goal.at.returns c).After-blocks_of)) (d.overwrite-kept.ensures.says, d.overwrite-kept.ensures.bytes)
-    (r.recount.ensures
-    ∙ (λ i. recounted a.entries.now (n.count-at.ensures i, n.count-at.ensures i + length ls) (chars 1 (d.overwrite-kept.ensures.bytes i) 0 (count_is (goal.at.returns c).After-blocks_of i)))
+    let q = left_done bs a.len.0 a.entries.now (overwrite a.start.0 ls) (judged (goal.at.returns c).After-end_outcome-outcome) c.in_default.is
+    (omega (arith, c.if-entries-blocks_of.false, blocks-are (goal.at.returns c).After-blocks_of)) (c.overwrite-kept.ensures.says, c.overwrite-kept.ensures.bytes)
+    (c.recount.ensures
+    ∙ (λ i. recounted a.entries.now (c.count-at.ensures i, c.count-at.ensures i + length ls) (chars 1 (c.overwrite-kept.ensures.bytes i) 0 (count_is (goal.at.returns c).After-blocks_of i)))
     ∙ touched-over a.entries.now a.len.0 (new_flags bs a.len.0 (overwrite a.start.0 ls)) a.start.0 ls) in
     record { says = q.0; bytes = q.1.0; entries = q.1.1 }

@@ -30,8 +30,7 @@ blocks-are c = c.blocks_of.ensures ∙ ap blocks (end_is (goal.at.After-blocks_o
 
 pub returns-in-Refused : goal.returns-in-Refused
 returns-in-Refused c =
-    let k = c in
-    let a = k.args in
+    let a = c.args in
     let q = left_refused a.buffer.now a.len.0 a.entries.now (push_ascii a.letters.now) (judged (goal.at.returns-in-Refused c).After-letters_outcome-outcome) c.in-Refused.is in
     record { says = q.0; bytes = q.1.0; entries = q.1.1 }
 
@@ -41,9 +40,9 @@ overflow_add-end c =
 
 pub returns-then-entries-blocks_of : goal.returns-then-entries-blocks_of
 returns-then-entries-blocks_of c =
-    let k = c in
-    let a = k.args in
-    let q = left_few a.buffer.now a.len.0 a.entries.now (push_ascii a.letters.now) (judged (goal.at.returns-then-entries-blocks_of c).After-letters_outcome-outcome) k.in_default.is (omega (arith, c.if-entries-blocks_of.true, blocks-are (goal.at.returns-then-entries-blocks_of c).After-blocks_of)) in
+    let a = c.args in
+    let q = left_few a.buffer.now a.len.0 a.entries.now (push_ascii a.letters.now) (judged (goal.at.returns-then-entries-blocks_of c).After-letters_outcome-outcome) c.in_default.is
+    (omega (arith, c.if-entries-blocks_of.true, blocks-are (goal.at.returns-then-entries-blocks_of c).After-blocks_of)) in
     record { says = q.0; bytes = q.1.0; entries = q.1.1 }
 
 pub recount-requires : goal.recount-requires
@@ -54,15 +53,12 @@ recount-requires c =
 
 pub returns : goal.returns
 returns c =
-    let r = c in
-    let d = r in
-    let e = d in
-    let k = e in
-    let a = k.args in
+    let a = c.args in
     let bs = a.buffer.now in
     let ls = a.letters.now in
-    let q = left_done bs a.len.0 a.entries.now (push_ascii ls) (judged (goal.at.returns c).After-letters_outcome-outcome) k.in_default.is (omega (arith, e.if-entries-blocks_of.false, blocks-are (goal.at.returns c).After-blocks_of)) (d.push_ascii-pushed.ensures.says, d.push_ascii-pushed.ensures.bytes)
-    (r.recount.ensures
-    ∙ (λ i. recounted a.entries.now (k.count-at.ensures i, end_is (goal.at.returns c).After-count-at i) (chars 1 (d.push_ascii-pushed.ensures.bytes i) 0 (end_is (goal.at.returns c).After-count-at i)))
+    let q = left_done bs a.len.0 a.entries.now (push_ascii ls) (judged (goal.at.returns c).After-letters_outcome-outcome) c.in_default.is
+    (omega (arith, c.if-entries-blocks_of.false, blocks-are (goal.at.returns c).After-blocks_of)) (c.push_ascii-pushed.ensures.says, c.push_ascii-pushed.ensures.bytes)
+    (c.recount.ensures
+    ∙ (λ i. recounted a.entries.now (c.count-at.ensures i, end_is (goal.at.returns c).After-count-at i) (chars 1 (c.push_ascii-pushed.ensures.bytes i) 0 (end_is (goal.at.returns c).After-count-at i)))
     ∙ touched-letters a.entries.now a.len.0 (new_flags bs a.len.0 (push_ascii ls)) ls) in
     record { says = q.0; bytes = q.1.0; entries = q.1.1 }

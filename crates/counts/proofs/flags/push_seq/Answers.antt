@@ -38,8 +38,7 @@ blocks-are c = c.blocks_of.ensures ∙ ap blocks (end_is (goal.at.After-blocks_o
 
 pub returns-in-Refused : goal.returns-in-Refused
 returns-in-Refused c =
-    let k = c in
-    let a = k.args in
+    let a = c.args in
     let q = left_refused a.buffer.now a.len.0 a.entries.now (push_seq a.bytes.now a.offset.0 a.count.0) (judged (goal.at.returns-in-Refused c).After-seq_outcome-outcome) c.in-Refused.is in
     record { says = q.0; bytes = q.1.0; entries = q.1.1 }
 
@@ -48,14 +47,12 @@ seq_start-start-requires c = record { width = search rules; len_bound = omega (a
 
 pub overflow_add-end : goal.overflow_add-end
 overflow_add-end c =
-    let k = c in
     omega (arith, end_is c, (room (goal.at.overflow_add-end c).In_default).0, (room (goal.at.overflow_add-end c).In_default).1)
 
 pub returns-then-entries-blocks_of : goal.returns-then-entries-blocks_of
 returns-then-entries-blocks_of c =
-    let k = c in
-    let a = k.args in
-    let q = left_few a.buffer.now a.len.0 a.entries.now (push_seq a.bytes.now a.offset.0 a.count.0) (judged (goal.at.returns-then-entries-blocks_of c).After-seq_outcome-outcome) k.in_default.is
+    let a = c.args in
+    let q = left_few a.buffer.now a.len.0 a.entries.now (push_seq a.bytes.now a.offset.0 a.count.0) (judged (goal.at.returns-then-entries-blocks_of c).After-seq_outcome-outcome) c.in_default.is
     (omega (arith, c.if-entries-blocks_of.true, blocks-are (goal.at.returns-then-entries-blocks_of c).After-blocks_of)) in
     record { says = q.0; bytes = q.1.0; entries = q.1.1 }
 
@@ -68,17 +65,13 @@ recount-requires c =
 
 pub returns : goal.returns
 returns c =
-    let r = c in
-    let d = r in
-    let e = d in
-    let n = e in
-    let k = n in
-    let a = k.args in
+    let a = c.args in
     let bs = a.buffer.now in
     let vs = a.bytes.now in
-    let q = left_done bs a.len.0 a.entries.now (push_seq vs a.offset.0 a.count.0) (judged (goal.at.returns c).After-seq_outcome-outcome) k.in_default.is (omega (arith, e.if-entries-blocks_of.false, blocks-are (goal.at.returns c).After-blocks_of))
-    (d.push_seq-pushed.ensures.says, d.push_seq-pushed.ensures.bytes)
-    (r.recount.ensures
-    ∙ (λ i. recounted a.entries.now (n.count-old.ensures i, end_is (goal.at.returns c).After-count i) (chars 1 (d.push_seq-pushed.ensures.bytes i) 0 (end_is (goal.at.returns c).After-count i)))
+    let q = left_done bs a.len.0 a.entries.now (push_seq vs a.offset.0 a.count.0) (judged (goal.at.returns c).After-seq_outcome-outcome) c.in_default.is
+    (omega (arith, c.if-entries-blocks_of.false, blocks-are (goal.at.returns c).After-blocks_of))
+    (c.push_seq-pushed.ensures.says, c.push_seq-pushed.ensures.bytes)
+    (c.recount.ensures
+    ∙ (λ i. recounted a.entries.now (c.count-old.ensures i, end_is (goal.at.returns c).After-count i) (chars 1 (c.push_seq-pushed.ensures.bytes i) 0 (end_is (goal.at.returns c).After-count i)))
     ∙ touched-seq a.entries.now a.len.0 (new_flags bs a.len.0 (push_seq vs a.offset.0 a.count.0)) vs a.offset.0 a.count.0) in
     record { says = q.0; bytes = q.1.0; entries = q.1.1 }

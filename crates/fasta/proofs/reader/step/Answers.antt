@@ -59,7 +59,10 @@ returns-in-Fresh c =
 pub returns-in-Within : goal.returns-in-Within
 unfolding track_after other_after in_line
 returns-in-Within c =
-    let q = state (goal.at.returns-in-Within c).Else-out-lt-OUT (Reader.Within _) c.in-Within.is _ _ _ _ _ (c.in_line.ensures.says, (c.in_line.ensures.bases, (c.in_line.ensures.flags, (refl, refl)))) in
+    let q = state (goal.at.returns-in-Within c).Else-out-lt-OUT (Reader.Within _) c.in-Within.is _ _ _ _ _ (
+      c.in_line.ensures.says,
+      (c.in_line.ensures.bases, (c.in_line.ensures.flags, (refl, refl))),
+    ) in
     record { says = q.0; bases = q.1.0; flags = q.1.1.0; other = q.1.1.1.0; out = q.1.1.1.1 }
 
 pub returns-in-WithinHeld : goal.returns-in-WithinHeld

@@ -6,7 +6,8 @@ pub returns-then-part-eq62 : goal.returns-then-part-eq62
 returns-then-part-eq62 c =
     let a = c.args in
     let row = c.put_row-wrote.ensures in
-    let q = closes a.kept a.part.now a.bases.now a.flags.now a.other.now a.out.now c.requires.part_nonzero _ _ _ _ c.if-part-eq62.true c.requires.in_bounds c.wrapping_add_u64-number.ensures.value row.out row.other in
+    let q = closes a.kept a.part.now a.bases.now a.flags.now a.other.now a.out.now c.requires.part_nonzero _ _ _ _ c.if-part-eq62.true c.requires.in_bounds
+    c.wrapping_add_u64-number.ensures.value row.out row.other in
     record { says = q.0; bases = q.1.0; flags = q.1.1.0; other = q.1.1.1.0; out = q.1.1.1.1 }
 
 pub returns : goal.returns

@@ -57,7 +57,8 @@ unfolding read_outcome read_answer bases_after flags_after
 returns-in-Refused c =
     let o = outcome (goal.at.returns-in-Refused c).Start in
     let r = c.in-Refused.refusal in
-    let e = sym (answer-outcome (Refused r) o (0, 0) _ (0, 0) (0, 0) (sym (ap checked_says c.in-Refused.is) ∙ c.check.ensures)) in record { answer = answer_refused o r _ 0 e; base_bytes = gives_refused o r _ _ e; flag_bytes = gives_refused o r _ _ e }
+    let e = sym (answer-outcome (Refused r) o (0, 0) _ (0, 0) (0, 0) (sym (ap checked_says c.in-Refused.is) ∙ c.check.ensures)) in
+    record { answer = answer_refused o r _ 0 e; base_bytes = gives_refused o r _ _ e; flag_bytes = gives_refused o r _ _ e }
 
 pub returns-in-Is : goal.returns-in-Is
 unfolding read_outcome read_answer bases_after flags_after

@@ -33,7 +33,8 @@ write_form-requires c =
     let a = c.args in
     let h = right (goal.at.write_form-requires c).In-Done in
     let bases = subst (λ (x : ℕ). first (view_tests 2 (length a.bases.now) x a.base_len.0) ≡ Done) (sym c.count-a.ensures) h.base_view in
-    let flags = subst (λ (x : ℕ). first (view_tests 1 (length a.flags.now) x a.base_len.0) ≡ Done) (sym c.count-b.ensures) h.flag-view in record { len_value = bases; len_value_2 = flags; len_bound = (h.few, h.fits) }
+    let flags = subst (λ (x : ℕ). first (view_tests 1 (length a.flags.now) x a.base_len.0) ≡ Done) (sym c.count-b.ensures) h.flag-view in
+    record { len_value = bases; len_value_2 = flags; len_bound = (h.few, h.fits) }
 
 pub form_size-requires : goal.form_size-requires
 form_size-requires c = (right (goal.at.form_size-requires c).In-Done).few
@@ -60,4 +61,7 @@ written c =
 pub returns-in-Done : goal.returns-in-Done
 unfolding write_answer write_after write_outcome
 returns-in-Done c =
-    record { answer = answer_done (outcome (goal.at.returns-in-Done c).Start) _ _ 0 (done (goal.at.returns-in-Done c).In-Done) c.form_size.ensures; bytes = written (goal.at.returns-in-Done c).After-write_form ∙ gives_done (outcome (goal.at.returns-in-Done c).Start) _ c.args.out.now (done (goal.at.returns-in-Done c).In-Done) }
+    record {
+      answer = answer_done (outcome (goal.at.returns-in-Done c).Start) _ _ 0 (done (goal.at.returns-in-Done c).In-Done) c.form_size.ensures;
+      bytes = written (goal.at.returns-in-Done c).After-write_form ∙ gives_done (outcome (goal.at.returns-in-Done c).Start) _ c.args.out.now (done (goal.at.returns-in-Done c).In-Done);
+    }

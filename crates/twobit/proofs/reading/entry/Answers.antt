@@ -27,7 +27,8 @@ returns-then-count-number c =
 pub returns-then-file-offset : goal.returns-then-file-offset
 returns-then-file-offset c =
     let a = c.args in
-    entry_far 4 a.file.now a.number a.at c.in-Is.big c.in-Is.count (headed (goal.at.returns-then-file-offset c).In-Is) c.if-count-number.false c.in-Is-entry_at.size c.in-Is-entry_at.offset c.in-Is-entry_at.end (noted (goal.at.returns-then-file-offset c).In-Is-entry_at) c.if-file-offset.true
+    entry_far 4 a.file.now a.number a.at c.in-Is.big c.in-Is.count (headed (goal.at.returns-then-file-offset c).In-Is) c.if-count-number.false c.in-Is-entry_at.size
+    c.in-Is-entry_at.offset c.in-Is-entry_at.end (noted (goal.at.returns-then-file-offset c).In-Is-entry_at) c.if-file-offset.true
 
 pub overflow_add-result : goal.overflow_add-result
 overflow_add-result c = record { fits = omega (arith, (noted (goal.at.overflow_add-result c).In-Is-entry_at).within, c.well_formed) }
@@ -45,4 +46,5 @@ returns-in-Cut c =
 pub returns-else-file-offset : goal.returns-else-file-offset
 returns-else-file-offset c =
     let a = c.args in
-    entry_done 4 a.file.now a.number a.at c.in-Is.big c.in-Is.count (headed (goal.at.returns-else-file-offset c).In-Is) c.if-count-number.false c.in-Is-entry_at.size c.in-Is-entry_at.offset c.in-Is-entry_at.end (noted (goal.at.returns-else-file-offset c).In-Is-entry_at) c.if-file-offset.false
+    entry_done 4 a.file.now a.number a.at c.in-Is.big c.in-Is.count (headed (goal.at.returns-else-file-offset c).In-Is) c.if-count-number.false c.in-Is-entry_at.size
+    c.in-Is-entry_at.offset c.in-Is-entry_at.end (noted (goal.at.returns-else-file-offset c).In-Is-entry_at) c.if-file-offset.false

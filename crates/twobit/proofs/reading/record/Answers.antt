@@ -44,7 +44,8 @@ unfolding record_outcome record_answer bases_after flags_after
 returns-in-Refused c =
     let o = outcome (goal.at.returns-in-Refused c).Start in
     let r = c.in-Refused.refusal in
-    let e = sym (answer-outcome (Refused r) o none_held _ none_held none_held (sym (ap ready_says c.in-Refused.is) ∙ c.record_ready.ensures)) in record { answer = answer_refused o r _ (0, 0) e; base_bytes = gives_refused o r _ _ e; flag_bytes = gives_refused o r _ _ e }
+    let e = sym (answer-outcome (Refused r) o none_held _ none_held none_held (sym (ap ready_says c.in-Refused.is) ∙ c.record_ready.ensures)) in
+    record { answer = answer_refused o r _ (0, 0) e; base_bytes = gives_refused o r _ _ e; flag_bytes = gives_refused o r _ _ e }
 
 pub returns-in-Is : goal.returns-in-Is
 unfolding record_outcome record_answer bases_after flags_after

@@ -32,4 +32,5 @@ returns-in-Bad-record_at c =
 pub returns-in-Is-record_at : goal.returns-in-Is-record_at
 returns-in-Is-record_at c =
     let a = c.args in
-    info_done a.file.now a.offset c.in-Is.big c.in-Is.count (headed (goal.at.returns-in-Is-record_at c).In-Is) (places (goal.at.returns-in-Is-record_at c).In-Is-record_at) (found (goal.at.returns-in-Is-record_at c).In-Is-record_at) c.new.result.0 c.new.ensures
+    info_done a.file.now a.offset c.in-Is.big c.in-Is.count (headed (goal.at.returns-in-Is-record_at c).In-Is) (places (goal.at.returns-in-Is-record_at c).In-Is-record_at)
+    (found (goal.at.returns-in-Is-record_at c).In-Is-record_at) c.new.result.0 c.new.ensures

@@ -82,15 +82,29 @@ pub write_record-requires : goal.write_record-requires
 write_record-requires c =
     let a = c.args in
     let r = right (goal.at.write_record-requires c).In-Is in
-    let long = sets-length a.out.now (entry (goal.at.write_record-requires c).After-count-in-Is) a.state.entry (entry_of false offset_size a.name.now a.state.place) (wrote (goal.at.write_record-requires c).After-count-in-Is) in
-    let sized = ap₂ (λ (x y : ℕ). record_size (chars 1 a.flags.now x y)) (flag_at_lem (goal.at.write_record-requires c).After-count-in-Is) (flag-long (goal.at.write_record-requires c).After-count-in-Is) in record {
-      len_value = ap₂ (λ (x y : ℕ). first (view_tests 2 (length a.bases.now) x y)) (base_at_lem (goal.at.write_record-requires c).After-count-in-Is) (base_long (goal.at.write_record-requires c).After-count-in-Is) ∙ r.base_view;
-      len_value_2 = ap₂ (λ (x y : ℕ). first (view_tests 1 (length a.flags.now) x y)) (flag_at_lem (goal.at.write_record-requires c).After-count-in-Is) (flag-long (goal.at.write_record-requires c).After-count-in-Is) ∙ r.flag-view;
-      count_value = ((ready (goal.at.write_record-requires c).In-Is).1 ∙ sym (ap₂ (λ (x y : ℕ). length (runs (chars 1 a.flags.now x y))) (flag_at_lem (goal.at.write_record-requires c).After-count-in-Is) (flag-long (goal.at.write_record-requires c).After-count-in-Is)), omega (arith, r.fits, long, sized));
+    let long = sets-length a.out.now (entry (goal.at.write_record-requires c).After-count-in-Is) a.state.entry (entry_of false offset_size a.name.now a.state.place)
+    (wrote (goal.at.write_record-requires c).After-count-in-Is) in
+    let sized = ap₂ (λ (x y : ℕ). record_size (chars 1 a.flags.now x y)) (flag_at_lem (goal.at.write_record-requires c).After-count-in-Is)
+    (flag-long (goal.at.write_record-requires c).After-count-in-Is) in record {
+      len_value = ap₂ (λ (x y : ℕ). first (view_tests 2 (length a.bases.now) x y)) (base_at_lem (goal.at.write_record-requires c).After-count-in-Is)
+          (base_long (goal.at.write_record-requires c).After-count-in-Is) ∙ r.base_view;
+      len_value_2 = ap₂ (λ (x y : ℕ). first (view_tests 1 (length a.flags.now) x y)) (flag_at_lem (goal.at.write_record-requires c).After-count-in-Is)
+          (flag-long (goal.at.write_record-requires c).After-count-in-Is) ∙ r.flag-view;
+      count_value = (
+        (ready (goal.at.write_record-requires c).In-Is).1
+            ∙ sym (ap₂ (λ (x y : ℕ). length (runs (chars 1 a.flags.now x y))) (flag_at_lem (goal.at.write_record-requires c).After-count-in-Is)
+            (flag-long (goal.at.write_record-requires c).After-count-in-Is)),
+        omega (arith, r.fits, long, sized),
+      );
     }
 
 pub overflow_add-result-in-Is-2 : goal.overflow_add-result-in-Is-2
-overflow_add-result-in-Is-2 c = omega (arith, (right (goal.at.overflow_add-result-in-Is-2 c).In-Is).index, (right (goal.at.overflow_add-result-in-Is-2 c).In-Is).behind, bound (goal.at.overflow_add-result-in-Is-2 c).In-Is)
+overflow_add-result-in-Is-2 c = omega (
+  arith,
+  (right (goal.at.overflow_add-result-in-Is-2 c).In-Is).index,
+  (right (goal.at.overflow_add-result-in-Is-2 c).In-Is).behind,
+  bound (goal.at.overflow_add-result-in-Is-2 c).In-Is,
+)
 
 pub overflow_mul-result : goal.overflow_mul-result
 overflow_mul-result c = omega (arith, size (goal.at.overflow_mul-result c).In-Is _ refl, bound (goal.at.overflow_mul-result c).In-Is)
@@ -119,7 +133,10 @@ pub returns-in-Refused : goal.returns-in-Refused
 unfolding add_answer add_after add_outcome
 returns-in-Refused c =
     let r = c.in-Refused.refusal in
-    let e = refusal c in record { answer = answer_refused (outcome (goal.at.returns-in-Refused c).Start) r _ c.args.state e; bytes = gives_refused (outcome (goal.at.returns-in-Refused c).Start) r _ c.args.out.now e }
+    let e = refusal c in record {
+      answer = answer_refused (outcome (goal.at.returns-in-Refused c).Start) r _ c.args.state e;
+      bytes = gives_refused (outcome (goal.at.returns-in-Refused c).Start) r _ c.args.out.now e;
+    }
 
 pub returns-in-Is : goal.returns-in-Is
 unfolding add_answer add_after add_outcome
@@ -135,4 +152,9 @@ returns-in-Is c =
     ∙ ap₂ (λ (x y : List ℕ). sets (entry (goal.at.returns-in-Is c).After-count-in-Is) a.state.place (record_of false x y)) bases flags
     ∙ ap
     (λ (l : List ℕ). sets l a.state.place (record_of false (chars 2 a.bases.now a.base_offset.0 a.base_len.0) (chars 1 a.flags.now a.flag_offset.0 a.flag_len.0)))
-    (wrote (goal.at.returns-in-Is c).After-count-in-Is) in record { answer = answer_done (outcome (goal.at.returns-in-Is c).Start) _ _ a.state (ready (goal.at.returns-in-Is c).In-Is).0 state; bytes = bytes ∙ gives_done (outcome (goal.at.returns-in-Is c).Start) _ a.out.now (ready (goal.at.returns-in-Is c).In-Is).0 }
+    (wrote (goal.at.returns-in-Is c).After-count-in-Is) in
+    record {
+      answer = answer_done (outcome (goal.at.returns-in-Is c).Start) _ _ a.state (ready (goal.at.returns-in-Is c).In-Is).0 state;
+      bytes = bytes
+          ∙ gives_done (outcome (goal.at.returns-in-Is c).Start) _ a.out.now (ready (goal.at.returns-in-Is c).In-Is).0;
+    }

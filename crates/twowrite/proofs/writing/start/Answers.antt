@@ -59,4 +59,9 @@ returns-in-Done c =
     let o = outcome (goal.at.returns-in-Done c).Start in
     let a = c.args in
     let stop = index_end offset_size a.count a.names in
-    let begun : Writing = writing header_size stop stop a.count in record { answer = answer_done o begun begun (writing 0 0 0 0) (done (goal.at.returns-in-Done c).In-Done) refl; bytes = c.write_header.ensures ∙ gives_done o _ _ (done (goal.at.returns-in-Done c).In-Done) }
+    let begun : Writing = writing header_size stop stop a.count in
+    record {
+      answer = answer_done o begun begun (writing 0 0 0 0) (done (goal.at.returns-in-Done c).In-Done) refl;
+      bytes = c.write_header.ensures
+          ∙ gives_done o _ _ (done (goal.at.returns-in-Done c).In-Done);
+    }

@@ -11,9 +11,8 @@ use Rattle.codes.proofs.inner.checks.bad_view.Goals as goal
 
 pub returns-then-n-lt-TRAILING : goal.returns-then-n-lt-TRAILING
 returns-then-n-lt-TRAILING c =
-    let s = c in
-    let a = s.args in
-    let h : a.n * per a.w < trailing * per a.w = mul-lt-mul_of_pos_right c.if-n-lt-TRAILING.true (per_pos s.requires.width) in
+    let a = c.args in
+    let h : a.n * per a.w < trailing * per a.w = mul-lt-mul_of_pos_right c.if-n-lt-TRAILING.true (per_pos c.requires.width) in
     sym (lt-ltb (a.n * per a.w) (a.offset.0 + a.len.0 + trailing * per a.w) (omega arith))
 
 -- the room is counted in characters
@@ -30,6 +29,5 @@ pub returns : goal.returns
 returns c =
     let a = c.args in
     let h = less_trailing a.n (per a.w) (omega arith) in
-    let b = c in
     let e = room (goal.at.returns c).After-count-room in
-    ltb-eq (b.count-room.result - b.count-o.result) c.count.result (a.n * per a.w) (a.offset.0 + a.len.0 + trailing * per a.w) (λ l. omega arith) (λ l. omega arith)
+    ltb-eq (c.count-room.result - c.count-o.result) c.count.result (a.n * per a.w) (a.offset.0 + a.len.0 + trailing * per a.w) (λ l. omega arith) (λ l. omega arith)

@@ -7,8 +7,7 @@ use Rattle.codes.proofs.inner.counts.chars_in.Goals as goal
 
 pub overflow_mul-k : goal.overflow_mul-k
 overflow_mul-k c =
-    let s = c in
-    omega (arith, subst (λ (p : ℕ). c.count-k.result * p ≤ 2 ^ 31) (sym c.eighth-c.ensures) (chars-bound s.requires.width c.count-k.result (omega arith)))
+    omega (arith, subst (λ (p : ℕ). c.count-k.result * p ≤ 2 ^ 31) (sym c.eighth-c.ensures) (chars-bound c.requires.width c.count-k.result (omega arith)))
 
 pub returns : goal.returns
 returns c = c.new.ensures ∙ ap₂ (λ (k p : ℕ). k * p) c.count-k.ensures c.eighth-c.ensures

@@ -12,8 +12,7 @@ shr_pair-requires c = omega (arith, mul-pos (width_pos c.requires.width) c.requi
 
 pub returns : goal.returns
 returns c =
-    let s = c in
-    let a = s.args in
+    let a = c.args in
     c.shr_pair.ensures
     ∙ ap₂ (λ (p q : ℕ). (p * 2 ^ 64 + q) / 2 ^ (128 - a.w * a.n)) c.flip_word-2.ensures c.flip_word.ensures
-    ∙ flip-shr_pair s.requires.width a.n a.low a.high s.ranges.low.fits s.requires.w_bound.2
+    ∙ flip-shr_pair c.requires.width a.n a.low a.high c.ranges.low.fits c.requires.w_bound.2

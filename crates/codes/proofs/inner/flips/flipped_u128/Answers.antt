@@ -15,16 +15,14 @@ returns-then-bad_word c = rw (sym c.bad_word.ensures ∙ c.if-bad_word.true)
 
 pub flip_low_pair-pair-requires : goal.flip_low_pair-pair-requires
 flip_low_pair-pair-requires c =
-    let b = c in
-    let s = b in
-    let i = low_in s.args.w s.args.most 128 _ _ (sym b.bad_word.ensures ∙ c.if-bad_word.false) c.count.ensures s.requires.w_bound.1 in record { width = s.requires.width; w_bound = (s.requires.w_bound.0, i.0, i.1) }
+    let i = low_in c.args.w c.args.most 128 _ _ (sym c.bad_word.ensures ∙ c.if-bad_word.false) c.count.ensures c.requires.w_bound.1 in
+    record { width = c.requires.width; w_bound = (c.requires.w_bound.0, i.0, i.1) }
 
 pub returns : goal.returns
 returns c =
-    let b = c in
-    let a = b.args in
+    let a = c.args in
     let r = c.flip_low_pair-pair.result in
-    rw (sym b.bad_word.ensures ∙ c.if-bad_word.false)
+    rw (sym c.bad_word.ensures ∙ c.if-bad_word.false)
     (ap (λ (p : ℕ × ℕ). answer Done p (0, 0))
     (halves_are _ r.low r.high (search rules)
     (c.flip_low_pair-pair.ensures ∙ ap (λ (k : ℕ). flip a.w (complement a.w) k (a.high * 2 ^ 64 + a.low)) c.count.ensures)))

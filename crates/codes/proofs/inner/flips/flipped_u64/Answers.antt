@@ -13,14 +13,12 @@ returns-then-bad_word c = rw (sym c.bad_word.ensures ∙ c.if-bad_word.true)
 
 pub flip_low-requires : goal.flip_low-requires
 flip_low-requires c =
-    let b = c in
-    let s = b in
-    let i = low_in s.args.w s.args.most 64 _ _ (sym b.bad_word.ensures ∙ c.if-bad_word.false) c.count.ensures s.requires.w_bound.1 in record { width = s.requires.width; w_bound = (s.requires.w_bound.0, i.0, i.1) }
+    let i = low_in c.args.w c.args.most 64 _ _ (sym c.bad_word.ensures ∙ c.if-bad_word.false) c.count.ensures c.requires.w_bound.1 in
+    record { width = c.requires.width; w_bound = (c.requires.w_bound.0, i.0, i.1) }
 
 pub returns : goal.returns
 returns c =
-    let b = c in
-    let a = b.args in
-    rw (sym b.bad_word.ensures ∙ c.if-bad_word.false)
+    let a = c.args in
+    rw (sym c.bad_word.ensures ∙ c.if-bad_word.false)
     (ap (λ (x : ℕ). answer Done x 0)
     (c.flip_low.ensures ∙ ap (λ (k : ℕ). flip a.w (complement a.w) k a.word) c.count.ensures))

@@ -31,13 +31,12 @@ pub loop-i-smaller : goal.loop-i-smaller
 loop-i-smaller c = omega arith
 
 pub loop-i-preserved : goal.loop-i-preserved
-loop-i-preserved c =
-    let s = c in (
-      omega arith,
-      (step (goal.at.loop-i-preserved c).In-loop-i).rest_is,
-      ap (set s.loop-i.out s.loop-i.i) (c.low_letter.ensures ∙ ap letter (mod-mod s.loop-i.rest 4)) ∙ (step (goal.at.loop-i-preserved c).In-loop-i).out_is,
-      simp length-set s.loop-i.invariant.3,
-    )
+loop-i-preserved c = (
+  omega arith,
+  (step (goal.at.loop-i-preserved c).In-loop-i).rest_is,
+  ap (set c.loop-i.out c.loop-i.i) (c.low_letter.ensures ∙ ap letter (mod-mod c.loop-i.rest 4)) ∙ (step (goal.at.loop-i-preserved c).In-loop-i).out_is,
+  simp length-set c.loop-i.invariant.3,
+)
 
 pub shape_of-out : goal.shape_of-out
 shape_of-out c = c.loop-i.invariant.3

@@ -12,15 +12,13 @@ use Rattle.codes.proofs.inner.packing.unpack_pair.Goals as goal
 
 pub returns-then-k-le32 : goal.returns-then-k-le32
 returns-then-k-le32 c =
-    let s = c in
-    let a = s.args in
+    let a = c.args in
     c.unpack.ensures
-    ∙ ap (λ (l : List ℕ). map letter l ++ drop a.k a.out.now) (sym (chars_of-low 2 32 a.k a.low a.high (omega arith) s.ranges.low.fits))
+    ∙ ap (λ (l : List ℕ). map letter l ++ drop a.k a.out.now) (sym (chars_of-low 2 32 a.k a.low a.high (omega arith) c.ranges.low.fits))
 
 pub returns-else-k-le32 : goal.returns-else-k-le32
 returns-else-k-le32 c =
-    let s = c in
-    let a = s.args in
+    let a = c.args in
     let m : ℕ = a.k - 32 in
     let k : 32 + m ≡ a.k = omega arith in
     let low : List ℕ = chars_of 2 32 a.low in
@@ -31,5 +29,5 @@ returns-else-k-le32 c =
     (length-map low letter ∙ length-chars_of 2 32 a.low) one.ensures two.ensures
     ∙ ap₂ (λ (p q : List ℕ). p ++ q)
     (sym (map-append letter low high)
-    ∙ ap (map letter) (sym (chars_of-pair 2 32 m a.low a.high s.ranges.low.fits) ∙ ap (λ (n : ℕ). chars_of 2 n (a.high * 2 ^ 64 + a.low)) k))
+    ∙ ap (map letter) (sym (chars_of-pair 2 32 m a.low a.high c.ranges.low.fits) ∙ ap (λ (n : ℕ). chars_of 2 n (a.high * 2 ^ 64 + a.low)) k))
     (ap (λ (n : ℕ). drop n a.out.now) k)

@@ -22,9 +22,8 @@ returns-then-out-n c =
 
 pub returns : goal.returns
 returns c =
-    let s = c in
-    let a = s.args in
+    let a = c.args in
     let k : ℕ = a.k.0 in record {
       outcome = simp (ltb-zero, le-ltb a.most k (omega arith), le-ltb (length a.out.now) k (omega arith));
-      bytes = c.unpack_pair.ensures ∙ ap (λ (n : ℕ). map letter (chars_of 2 n (a.high * 2 ^ 64 + a.low)) ++ drop n a.out.now) s.count-n.ensures;
+      bytes = c.unpack_pair.ensures ∙ ap (λ (n : ℕ). map letter (chars_of 2 n (a.high * 2 ^ 64 + a.low)) ++ drop n a.out.now) c.count-n.ensures;
     }

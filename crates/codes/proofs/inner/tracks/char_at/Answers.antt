@@ -12,7 +12,7 @@ byte : (c : After-count-b) → c.count-b.result ≡ c.args.i / per c.args.w
 byte c = c.count-b.ensures ∙ c.byte_of.ensures ∙ ap (λ (k : ℕ). k / per c.args.w) c.new-at.ensures
 
 pub bounds-bytes-b : goal.bounds-bytes-b
-bounds-bytes-b c = let s = c in subst (λ (b : ℕ). b < length s.args.bytes.now) (sym (byte (goal.at.bounds-bytes-b c).After-count-b)) s.requires.w_in_bounds
+bounds-bytes-b c = subst (λ (b : ℕ). b < length c.args.bytes.now) (sym (byte (goal.at.bounds-bytes-b c).After-count-b)) c.requires.w_in_bounds
 
 place : (c : After-count) → c.count.result ≡ c.args.i % per c.args.w
 place c =
@@ -22,7 +22,7 @@ place c =
 
 pub digit-requires : goal.digit-requires
 digit-requires c =
-    let s = c in record { width = s.requires.width; k_bound = subst (λ (k : ℕ). k < per s.args.w) (sym (place c)) (mod-lt s.args.i (per_pos s.requires.width)) }
+    record { width = c.requires.width; k_bound = subst (λ (k : ℕ). k < per c.args.w) (sym (place c)) (mod-lt c.args.i (per_pos c.requires.width)) }
 
 pub returns : goal.returns
 unfolding char_at

@@ -11,14 +11,11 @@ use Rattle.counts.proofs.inner.blocks.recount.Goals as goal
 
 pub returns-then-start-end : goal.returns-then-start-end
 returns-then-start-end c =
-    let r = c in
-    let m = r in
-    let t = m in
-    let a = t.args in
+    let a = c.args in
     let flags = chars 1 a.track.now 0 a.len in
     let long = length-chars 1 a.track.now 0 a.len in
-    let to = m.smaller-to.ensures ∙ ap₂ min m.blocks_of.ensures (m.blocks_of-then-start-end.ensures ∙ ap blocks (sym long)) in
-    recounted-made a.entries.now a.start a.end flags r.count_run.new.entries t.if-start-end.true (made-to r.count_run.ensures to) (omega (arith, long))
+    let to = c.smaller-to.ensures ∙ ap₂ min c.blocks_of.ensures (c.blocks_of-then-start-end.ensures ∙ ap blocks (sym long)) in
+    recounted-made a.entries.now a.start a.end flags c.count_run.new.entries c.if-start-end.true (made-to c.count_run.ensures to) (omega (arith, long))
 
 pub returns-else-start-end : goal.returns-else-start-end
 returns-else-start-end c =

@@ -19,8 +19,7 @@ bounds-entries-b c = omega arith
 
 pub overflow_add-total : goal.overflow_add-total
 overflow_add-total c =
-    let k = c in
-    omega (arith, k.loop-b.invariant.3, c.wide-total.ensures, (k.shared_slice_known-1.given k.loop-b.b).fits)
+    omega (arith, c.loop-b.invariant.3, c.wide-total.ensures, (c.shared_slice_known-1.given c.loop-b.b).fits)
 
 pub overflow_add-b : goal.overflow_add-b
 overflow_add-b c = omega arith
@@ -30,19 +29,17 @@ loop-b-smaller c = omega arith
 
 pub loop-b-preserved : goal.loop-b-preserved
 loop-b-preserved c =
-    let k = c in
-    let a = k.args in (
+    let a = c.args in (
       omega arith,
       omega arith,
-      ap₂ (λ (x y : ℕ). x + y) k.loop-b.invariant.2 c.wide-total.ensures
-          ∙ sym (sum_more a.entries.now a.from k.loop-b.b (omega arith) (omega arith))
-          ∙ ap (λ (x : ℕ). sum (slice a.from x a.entries.now)) (sym (add-one k.loop-b.b)),
-      omega (arith, k.loop-b.invariant.3, c.wide-total.ensures, (k.shared_slice_known-1.given k.loop-b.b).fits),
+      ap₂ (λ (x y : ℕ). x + y) c.loop-b.invariant.2 c.wide-total.ensures
+          ∙ sym (sum_more a.entries.now a.from c.loop-b.b (omega arith) (omega arith))
+          ∙ ap (λ (x : ℕ). sum (slice a.from x a.entries.now)) (sym (add-one c.loop-b.b)),
+      omega (arith, c.loop-b.invariant.3, c.wide-total.ensures, (c.shared_slice_known-1.given c.loop-b.b).fits),
     )
 
 pub returns : goal.returns
 returns c =
-    let k = c in
-    let a = k.args in
-    let all : k.loop-b.b ≡ a.to = omega arith in
-    (k.loop-b.invariant.2 ∙ ap (λ (x : ℕ). sum (slice a.from x a.entries.now)) all, omega (arith, k.loop-b.invariant.3))
+    let a = c.args in
+    let all : c.loop-b.b ≡ a.to = omega arith in
+    (c.loop-b.invariant.2 ∙ ap (λ (x : ℕ). sum (slice a.from x a.entries.now)) all, omega (arith, c.loop-b.invariant.3))

@@ -20,26 +20,24 @@ pub overflow_cast-total : goal.overflow_cast-total
 overflow_cast-total c = omega arith
 
 pub overflow_add-total : goal.overflow_add-total
-overflow_add-total c = let k = c in omega (arith, k.loop-b.invariant.3, c.sum_many.ensures.1, c.smaller-next.ensures)
+overflow_add-total c = omega (arith, c.loop-b.invariant.3, c.sum_many.ensures.1, c.smaller-next.ensures)
 
 pub loop-b-smaller : goal.loop-b-smaller
 loop-b-smaller c = omega arith
 
 pub loop-b-preserved : goal.loop-b-preserved
 loop-b-preserved c =
-    let k = c in
-    let a = k.args in
+    let a = c.args in
     let n = c.smaller-next.ensures in (
       omega arith,
       omega arith,
-      ap₂ (λ (x y : ℕ). x + y) k.loop-b.invariant.2 c.sum_many.ensures.0
-          ∙ sum-parts a.entries.now a.from k.loop-b.b c.smaller-next.result (omega arith) (omega arith) (omega arith),
-      omega (arith, k.loop-b.invariant.3, c.sum_many.ensures.1),
+      ap₂ (λ (x y : ℕ). x + y) c.loop-b.invariant.2 c.sum_many.ensures.0
+          ∙ sum-parts a.entries.now a.from c.loop-b.b c.smaller-next.result (omega arith) (omega arith) (omega arith),
+      omega (arith, c.loop-b.invariant.3, c.sum_many.ensures.1),
     )
 
 pub returns : goal.returns
 returns c =
-    let k = c in
-    let a = k.args in
-    let all : k.loop-b.b ≡ a.to = omega arith in
-    (k.loop-b.invariant.2 ∙ ap (λ (x : ℕ). sum (slice a.from x a.entries.now)) all, omega (arith, k.loop-b.invariant.3))
+    let a = c.args in
+    let all : c.loop-b.b ≡ a.to = omega arith in
+    (c.loop-b.invariant.2 ∙ ap (λ (x : ℕ). sum (slice a.from x a.entries.now)) all, omega (arith, c.loop-b.invariant.3))

@@ -58,7 +58,8 @@ returns c =
     let pairs : (j : ℕ) → j < left → y / 2 ^ (2 * j) % 4 ≡ held a.file.now a.flags.now a.d a.n (l.done + j) =
     λ j h.
     read_held a.file.now a.flags.now a.d a.n l.done l.i k c.number_at-x.result c.exchange-2.result l.invariant.1 (omega arith)
-    (loaded_some a.file.now (file_fit (goal.at.returns c).At-loop-done) (a.d + l.i) k c.number_at-x.result c.number_at-x.ensures) c.exchange-2.ensures c.bits_at-f.result y c.three_under-y.ensures j (omega arith)
+    (loaded_some a.file.now (file_fit (goal.at.returns c).At-loop-done) (a.d + l.i) k c.number_at-x.result c.number_at-x.ensures) c.exchange-2.ensures c.bits_at-f.result y
+    c.three_under-y.ensures j (omega arith)
     (omega arith) (flag-bits a.flags.now (flags_fit (goal.at.returns c).At-loop-done) l.done left c.bits_at-f.result j c.bits_at-f.ensures h) in
     let clear = cleared_held a.file.now a.flags.now a.d a.n l.done left y (omega arith) pairs in
     let turn =

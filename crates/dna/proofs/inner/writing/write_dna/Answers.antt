@@ -65,7 +65,8 @@ loop-done-preserved c =
     let turn =
     dna-turn a.bases.now a.flags.now a.ao a.bo a.len a.at l.done l.i 8 c.bits_at-x.result (c.peek-f.result % 2 ^ 32) c.t_under.result c.exchange.result
     c.t_under.ensures c.exchange.ensures (omega arith) l.invariant.1 (room (goal.at.loop-done-preserved c).At-loop-done c.loop-done-test.true)
-    (turn_placed a.bases.now a.flags.now a.ao a.bo a.len (bases_fit (goal.at.loop-done-preserved c).At-loop-done) (flags_fit (goal.at.loop-done-preserved c).At-loop-done) l.done c.bits_at-x.result (c.peek-f.result % 2 ^ 32) c.bits_at-x.ensures
+    (turn_placed a.bases.now a.flags.now a.ao a.bo a.len (bases_fit (goal.at.loop-done-preserved c).At-loop-done) (flags_fit (goal.at.loop-done-preserved c).At-loop-done) l.done
+    c.bits_at-x.result (c.peek-f.result % 2 ^ 32) c.bits_at-x.ensures
     (low_flags a.flags.now (a.bo + l.done) c.peek-f.result c.peek-f.ensures) (omega arith))
     l.invariant.0 in (
       subst (Made (λ j. dna_byte a.bases.now a.flags.now a.ao a.bo a.len (j - a.at)) a.at (l.i + 8) a.out.now) (sym c.store64.ensures) turn,
@@ -112,7 +113,8 @@ returns c =
     let turn =
     dna-turn a.bases.now a.flags.now a.ao a.bo a.len a.at l.done l.i k c.bits_at-x-2.result _ c.t_under-2.result c.exchange-2.result
     c.t_under-2.ensures c.exchange-2.ensures (omega arith) l.invariant.1 fits
-    (last_placed a.bases.now a.flags.now a.ao a.bo a.len (bases_fit (goal.at.returns c).At-loop-done) (flags_fit (goal.at.returns c).At-loop-done) l.done left c.bits_at-x-2.result c.bits_at.result _ c.bits_at-x-2.ensures
+    (last_placed a.bases.now a.flags.now a.ao a.bo a.len (bases_fit (goal.at.returns c).At-loop-done) (flags_fit (goal.at.returns c).At-loop-done) l.done left c.bits_at-x-2.result
+    c.bits_at.result _ c.bits_at-x-2.ensures
     c.bits_at.ensures (omega arith) small refl)
     l.invariant.0 in
     let out = c.put_bytes.ensures ∙ put_sets k c.exchange-2.result l.i l.out (omega (arith, l.invariant.0.long)) in

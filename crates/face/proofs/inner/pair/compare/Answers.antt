@@ -2,21 +2,6 @@
 use mathlib.Core.Path.{◌∙◌}
 use Rattle.face.proofs.inner.pair.compare.Goals as goal
 
-pub new-requires : goal.new-requires
-new-requires c = tt
-
-pub new-requires-2 : goal.new-requires-2
-new-requires-2 c = tt
-
-pub new-requires-3 : goal.new-requires-3
-new-requires-3 c = tt
-
-pub new-requires-4 : goal.new-requires-4
-new-requires-4 c = tt
-
-pub compared-requires : goal.compared-requires
-compared-requires c = tt
-
 pub returns : goal.returns
 returns c =
     let new = c.new.ensures in

@@ -7,15 +7,6 @@ use Rattle.given.specs.Face.{Part, no_part}
 use Rattle.face.specs.Parts.{made_part}
 use Rattle.face.proofs.inner.parts.made.Goals as goal
 
-pub new-requires : goal.new-requires
-new-requires c = tt
-
-pub new-requires-2 : goal.new-requires-2
-new-requires-2 c = tt
-
-pub part-requires : goal.part-requires
-part-requires c = tt
-
 pub returns : goal.returns
 unfolding made_part
 returns c =

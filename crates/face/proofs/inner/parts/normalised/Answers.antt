@@ -10,21 +10,6 @@ use Rattle.given.specs.Face.{Part, no_part}
 use Rattle.face.proofs.PartLaws.{part_bytes}
 use Rattle.face.proofs.inner.parts.normalised.Goals as goal
 
-pub new-o-requires : goal.new-o-requires
-new-o-requires c = tt
-
-pub new-l-requires : goal.new-l-requires
-new-l-requires c = tt
-
-pub count-requires : goal.count-requires
-count-requires c = tt
-
-pub count-requires-2 : goal.count-requires-2
-count-requires-2 c = tt
-
-pub part-requires : goal.part-requires
-part-requires c = tt
-
 pub returns : goal.returns
 returns c =
     let a = c.args in

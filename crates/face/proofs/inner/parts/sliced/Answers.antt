@@ -9,27 +9,6 @@ use Rattle.face.specs.Parts.{sliced_part}
 use Rattle.face.proofs.PartLaws.{part-numbers}
 use Rattle.face.proofs.inner.parts.sliced.Goals as goal
 
-pub new-requires : goal.new-requires
-new-requires c = tt
-
-pub new-requires-2 : goal.new-requires-2
-new-requires-2 c = tt
-
-pub new-requires-3 : goal.new-requires-3
-new-requires-3 c = tt
-
-pub new-requires-4 : goal.new-requires-4
-new-requires-4 c = tt
-
-pub count-requires : goal.count-requires
-count-requires c = tt
-
-pub count-requires-2 : goal.count-requires-2
-count-requires-2 c = tt
-
-pub part-requires : goal.part-requires
-part-requires c = tt
-
 pub returns : goal.returns
 unfolding sliced_part
 returns c =

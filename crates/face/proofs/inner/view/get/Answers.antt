@@ -2,18 +2,6 @@
 use mathlib.Core.Path.{◌∙◌}
 use Rattle.face.proofs.inner.view.get.Goals as goal
 
-pub new-requires : goal.new-requires
-new-requires c = tt
-
-pub new-requires-2 : goal.new-requires-2
-new-requires-2 c = tt
-
-pub new-requires-3 : goal.new-requires-3
-new-requires-3 c = tt
-
-pub symbol-requires : goal.symbol-requires
-symbol-requires c = tt
-
 pub returns : goal.returns
 returns c =
     let new = c.new.ensures in

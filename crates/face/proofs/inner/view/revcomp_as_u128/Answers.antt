@@ -2,15 +2,6 @@
 use mathlib.Core.Path.{◌∙◌}
 use Rattle.face.proofs.inner.view.revcomp_as_u128.Goals as goal
 
-pub new-requires : goal.new-requires
-new-requires c = tt
-
-pub new-requires-2 : goal.new-requires-2
-new-requires-2 c = tt
-
-pub word128-requires : goal.word128-requires
-word128-requires c = tt
-
 pub returns : goal.returns
 returns c =
     let new = c.new.ensures in

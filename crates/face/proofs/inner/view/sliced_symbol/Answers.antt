@@ -12,14 +12,8 @@ use Rattle.face.proofs.inner.view.sliced_symbol.Goals as goal
 at_width : {x : Answer ℕ} {w v : ℕ} (bs : List ℕ) (o len start end i : ℕ) → x ≡ got_sliced v bs o len start end i → w ≡ v → x ≡ got_sliced w bs o len start end i
 at_width bs o len start end i e h = rw h e
 
-pub get_sliced-requires : goal.get_sliced-requires
-get_sliced-requires c = tt
-
 pub returns-then-w-eq2 : goal.returns-then-w-eq2
 returns-then-w-eq2 c = at_width _ _ _ _ _ _ c.get_sliced.ensures c.if-w-eq2.true
-
-pub get_sliced-requires-2 : goal.get_sliced-requires-2
-get_sliced-requires-2 c = tt
 
 pub returns : goal.returns
 returns c = at_width _ _ _ _ _ _ c.get_sliced-2.ensures (omega (arith, width_pos c.requires.width))

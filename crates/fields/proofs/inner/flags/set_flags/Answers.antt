@@ -13,30 +13,26 @@ loop-done-init c = (search rules, refl)
 
 pub overflow_add-sum : goal.overflow_add-sum
 overflow_add-sum c =
-    let k = c in
-    let a = k.args in
-    omega (arith, k.loop-done.invariant.1, c.set_in_word-sum.ensures, flags_few a.bytes.now a.first k.loop-done.done, flags_few a.bytes.now (a.first + k.loop-done.done) 64)
+    let a = c.args in
+    omega (arith, c.loop-done.invariant.1, c.set_in_word-sum.ensures, flags_few a.bytes.now a.first c.loop-done.done, flags_few a.bytes.now (a.first + c.loop-done.done) 64)
 
 pub loop-done-preserved : goal.loop-done-preserved
 loop-done-preserved c =
-    let k = c in
-    let a = k.args in (
+    let a = c.args in (
       search rules,
-      ap₂ (λ (x y : ℕ). x + y) k.loop-done.invariant.1 c.set_in_word-sum.ensures ∙ flags_more a.bytes.now a.first k.loop-done.done 64,
+      ap₂ (λ (x y : ℕ). x + y) c.loop-done.invariant.1 c.set_in_word-sum.ensures ∙ flags_more a.bytes.now a.first c.loop-done.done 64,
     )
 
 pub overflow_add-result : goal.overflow_add-result
 overflow_add-result c =
-    let k = c in
-    let a = k.args in
+    let a = c.args in
     omega
-    (arith, k.loop-done.invariant.1, c.set_in_word.ensures, flags_few a.bytes.now a.first k.loop-done.done, flags_few a.bytes.now (a.first + k.loop-done.done) (a.n - k.loop-done.done))
+    (arith, c.loop-done.invariant.1, c.set_in_word.ensures, flags_few a.bytes.now a.first c.loop-done.done, flags_few a.bytes.now (a.first + c.loop-done.done) (a.n - c.loop-done.done))
 
 pub returns : goal.returns
 returns c =
-    let k = c in
-    let a = k.args in
-    let all : k.loop-done.done + (a.n - k.loop-done.done) ≡ a.n = omega arith in
-    ap₂ (λ (x y : ℕ). x + y) k.loop-done.invariant.1 c.set_in_word.ensures
-    ∙ flags_more a.bytes.now a.first k.loop-done.done (a.n - k.loop-done.done)
+    let a = c.args in
+    let all : c.loop-done.done + (a.n - c.loop-done.done) ≡ a.n = omega arith in
+    ap₂ (λ (x y : ℕ). x + y) c.loop-done.invariant.1 c.set_in_word.ensures
+    ∙ flags_more a.bytes.now a.first c.loop-done.done (a.n - c.loop-done.done)
     ∙ ap (λ (n : ℕ). set_flags (chars 1 a.bytes.now a.first n)) all

@@ -8,10 +8,9 @@ use Rattle.fields.proofs.inner.loads.bits_at.Goals as goal
 
 pub returns : goal.returns
 returns c =
-    let s = c in
-    let a = s.args in
+    let a = c.args in
     let x = word 8 a.bytes.now in
     let split : 8 * (a.p / 8) + a.p % 8 ≡ a.p = omega arith in
     c.low_bits.ensures
-    ∙ ap (λ (y : ℕ). y % 2 ^ a.n) (s.word_at.ensures ∙ ap (λ (k : ℕ). x / 2 ^ k % 2 ^ 64) split)
+    ∙ ap (λ (y : ℕ). y % 2 ^ a.n) (c.word_at.ensures ∙ ap (λ (k : ℕ). x / 2 ^ k % 2 ^ 64) split)
     ∙ mod_low (x / 2 ^ a.p) a.n 64 (omega arith)

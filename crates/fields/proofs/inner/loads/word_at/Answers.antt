@@ -14,9 +14,8 @@ byte_at x v k m e h = e ∙ ap (λ (j : ℕ). x / 2 ^ (8 * j) % 2 ^ 8) h
 
 pub returns : goal.returns
 returns c =
-    let s = c in
-    let a = s.args in
+    let a = c.args in
     let r = c.shr_pair-pair.result in
     sym (mod-eq_of_lt (search rules))
     ∙ nine (word 8 a.bytes.now) a.at a.s 64 _ _ r.low r.high
-    s.load64.ensures (byte_at _ _ _ (a.at + 8) s.load8.ensures (omega arith)) c.shr_pair-pair.ensures (search rules) (omega arith) (le_refl 64)
+    c.load64.ensures (byte_at _ _ _ (a.at + 8) c.load8.ensures (omega arith)) c.shr_pair-pair.ensures (search rules) (omega arith) (le_refl 64)

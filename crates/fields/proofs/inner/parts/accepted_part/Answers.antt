@@ -11,9 +11,8 @@ use Rattle.fields.proofs.inner.parts.accepted_part.Goals as goal
 
 pub overflow_add-count : goal.overflow_add-count
 overflow_add-count c =
-    let s = c in
-    let a = s.args in
-    omega (arith, room_sum s.requires.width (view_accepted a.w (length a.bytes.now) a.offset.0 a.len.0 s.requires.len_value))
+    let a = c.args in
+    omega (arith, room_sum c.requires.width (view_accepted a.w (length a.bytes.now) a.offset.0 a.len.0 c.requires.len_value))
 
 -- where the part begins, and the bytes that the characters take
 module _ (c : After-count-to) where

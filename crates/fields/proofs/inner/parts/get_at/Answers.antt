@@ -43,7 +43,7 @@ returns-in-Refused c = answer_refused _ _ _ 0 (sym (outcome (goal.at.returns-in-
 pub returns-in-Done : goal.returns-in-Done
 unfolding got
 returns-in-Done c =
-    let d = c in
-    let b = d.args in
-    answer_done _ _ _ 0 (sym (outcome (goal.at.returns-in-Done c).After-refuse_if) ∙ d.in-Done.is)
-    (c.char_at.ensures ∙ ap (char_at b.w b.bytes.now) (place (goal.at.returns-in-Done c).After-count-in-Done) ∙ sym (get_or-chars b.w b.bytes.now b.offset.0 b.len.0 b.i.0 (within (goal.at.returns-in-Done c).After-count-in-Done).below))
+    let b = c.args in
+    answer_done _ _ _ 0 (sym (outcome (goal.at.returns-in-Done c).After-refuse_if) ∙ c.in-Done.is)
+    (c.char_at.ensures ∙ ap (char_at b.w b.bytes.now) (place (goal.at.returns-in-Done c).After-count-in-Done)
+    ∙ sym (get_or-chars b.w b.bytes.now b.offset.0 b.len.0 b.i.0 (within (goal.at.returns-in-Done c).After-count-in-Done).below))

@@ -11,13 +11,11 @@ accepted_part-requires c = record { width = c.requires; len_value = sym c.view_o
 
 pub returns-in-Refused : goal.returns-in-Refused
 returns-in-Refused c =
-    let m = c in
-    let a = m.args in
-    gives_refused (first (view_tests a.w (length a.bytes.now) a.offset.0 a.len.0)) _ _ (front (span_of a.bytes)) (sym m.view_outcome.ensures ∙ c.in-Refused.is)
+    let a = c.args in
+    gives_refused (first (view_tests a.w (length a.bytes.now) a.offset.0 a.len.0)) _ _ (front (span_of a.bytes)) (sym c.view_outcome.ensures ∙ c.in-Refused.is)
 
 pub returns-in-Done : goal.returns-in-Done
 returns-in-Done c =
-    let m = c in
-    let a = m.args in
+    let a = c.args in
     let tests = view_tests a.w (length a.bytes.now) a.offset.0 a.len.0 in
-    c.accepted_part.ensures ∙ gives_done (first tests) _ (front (span_of a.bytes)) (sym m.view_outcome.ensures ∙ c.in-Done.is)
+    c.accepted_part.ensures ∙ gives_done (first tests) _ (front (span_of a.bytes)) (sym c.view_outcome.ensures ∙ c.in-Done.is)

@@ -15,25 +15,27 @@ cut : (c : In-Done) → let a = c.args in Cut a.w (length a.bytes.now) a.offset.
 cut c = slice_cut _ _ _ _ _ _ (sym c.slice_outcome.ensures ∙ c.in-Done.is)
 
 pub overflow_add-count : goal.overflow_add-count
-overflow_add-count c = omega (arith, room_sum c.requires (cut (goal.at.overflow_add-count c).In-Done).room, (cut (goal.at.overflow_add-count c).In-Done).ends, (cut (goal.at.overflow_add-count c).In-Done).starts)
+overflow_add-count c = omega (
+  arith,
+  room_sum c.requires (cut (goal.at.overflow_add-count c).In-Done).room,
+  (cut (goal.at.overflow_add-count c).In-Done).ends,
+  (cut (goal.at.overflow_add-count c).In-Done).starts,
+)
 
 pub overflow_sub-count : goal.overflow_sub-count
 overflow_sub-count c = omega (arith, (cut (goal.at.overflow_sub-count c).In-Done).ends, (cut (goal.at.overflow_sub-count c).In-Done).starts)
 
 pub returns-in-Refused : goal.returns-in-Refused
 returns-in-Refused c =
-    let m = c in
-    let a = m.args in
-    let e = sym c.in-Refused.is ∙ m.slice_outcome.ensures in
+    let a = c.args in
+    let e = sym c.in-Refused.is ∙ c.slice_outcome.ensures in
     c.numbers_of.ensures ∙ ap (λ (o : Outcome). answer o (a.offset.0 + a.start.0, a.end.0 - a.start.0) (0, 0)) e
 
 pub returns-in-Done : goal.returns-in-Done
 returns-in-Done c =
-    let k = c in
-    let m = k in
-    let a = m.args in
+    let a = c.args in
     c.numbers_of-in-Done.ensures
     ∙ ap₂ (λ (x y : ℕ). answer Done (x, y) (0, 0))
-    (c.new.ensures ∙ ap₂ (λ (x y : ℕ). x + y) k.count.ensures k.count-from.ensures)
-    (c.new-in-Done.ensures ∙ ap₂ (λ (x y : ℕ). x - y) c.count-in-Done.ensures k.count-from.ensures)
-    ∙ ap (λ (o : Outcome). answer o (a.offset.0 + a.start.0, a.end.0 - a.start.0) (0, 0)) (sym k.in-Done.is ∙ m.slice_outcome.ensures)
+    (c.new.ensures ∙ ap₂ (λ (x y : ℕ). x + y) c.count.ensures c.count-from.ensures)
+    (c.new-in-Done.ensures ∙ ap₂ (λ (x y : ℕ). x - y) c.count-in-Done.ensures c.count-from.ensures)
+    ∙ ap (λ (o : Outcome). answer o (a.offset.0 + a.start.0, a.end.0 - a.start.0) (0, 0)) (sym c.in-Done.is ∙ c.slice_outcome.ensures)

@@ -9,11 +9,9 @@ use Rattle.fields.proofs.inner.parts.slice_outcome.Goals as goal
 
 pub returns : goal.returns
 returns c =
-    let e = c in
-    let v = e in
-    let a = v.args in
+    let a = c.args in
     let ts = view_tests a.w (length a.bytes.now) a.offset.0 a.len.0 in
     let ends = bad_end a.len.0 a.end.0 in
     first_then (ts ++ ends ∷ []) (bad_start a.start.0 a.end.0) _ _ _
-    (first_then ts ends _ _ _ v.view_outcome-view.ensures (ap₂ ltb e.count.ensures e.count-2.ensures) e.refuse_if-ends.ensures)
+    (first_then ts ends _ _ _ c.view_outcome-view.ensures (ap₂ ltb c.count.ensures c.count-2.ensures) c.refuse_if-ends.ensures)
     (ap₂ ltb c.count-3.ensures c.count-4.ensures) c.refuse_if.ensures

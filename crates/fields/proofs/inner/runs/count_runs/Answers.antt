@@ -51,10 +51,9 @@ run_end-q-requires c = (c.loop-p.invariant.within, c.requires.1, omega arith)
 
 pub run_end-p-requires-in-loop-p : goal.run_end-p-requires-in-loop-p
 run_end-p-requires-in-loop-p c =
-    let k = c in
-    let a = k.args in
-    let l = same_within a.bytes.now 1 k.loop-p.p (a.first + a.n) k.loop-p.invariant.within in
-    (subst (λ (q : ℕ). q ≤ a.first + a.n) (sym c.run_end-q.ensures) l, k.requires.1, omega arith)
+    let a = c.args in
+    let l = same_within a.bytes.now 1 c.loop-p.p (a.first + a.n) c.loop-p.invariant.within in
+    (subst (λ (q : ℕ). q ≤ a.first + a.n) (sym c.run_end-q.ensures) l, c.requires.1, omega arith)
 
 -- the run that a turn passes
 turn : (c : After-run_end-p-in-loop-p)
@@ -69,17 +68,15 @@ turn c =
 
 pub overflow_add-count : goal.overflow_add-count
 overflow_add-count c =
-    let k = c in
-    record { fits = omega (arith, k.loop-p.invariant.few, (turn c).some, (turn c).on, (turn c).within, k.requires.0) }
+    record { fits = omega (arith, c.loop-p.invariant.few, (turn c).some, (turn c).on, (turn c).within, c.requires.0) }
 
 pub loop-p-smaller : goal.loop-p-smaller
 loop-p-smaller c = omega (arith, (turn c).some, (turn c).on, (turn c).within)
 
 pub loop-p-preserved : goal.loop-p-preserved
 loop-p-preserved c =
-    let k = c in
-    let a = k.args in
-    passed_turn a.bytes.now a.first a.n (a.first + a.n) k.loop-p.p k.loop-p.count c.run_end-q.result c.run_end-p-in-loop-p.result k.loop-p.invariant (turn c)
+    let a = c.args in
+    passed_turn a.bytes.now a.first a.n (a.first + a.n) c.loop-p.p c.loop-p.count c.run_end-q.result c.run_end-p-in-loop-p.result c.loop-p.invariant (turn c)
 
 pub returns : goal.returns
 returns c = passed_all c.loop-p.invariant (search rules)

@@ -54,7 +54,8 @@ zeros c =
       | then-v-eq0 w ↦
           let e : a.v ≡ 0 = w.if-v-eq0.true in
           let o : c.if-v-eq0.other ≡ x = w.other-is in
-          ap (λ (v : ℕ). leading v (chars 1 s at n)) e ∙ zeros_0 s b at n x (small (goal.at.Joined-v-eq0 c).Joined-end-at-gt56).0 c.peek-x.ensures ∙ ap (λ (y : ℕ). min (count_trailing_zeros 64 y) n) (sym o)
+          ap (λ (v : ℕ). leading v (chars 1 s at n)) e ∙ zeros_0 s b at n x (small (goal.at.Joined-v-eq0 c).Joined-end-at-gt56).0 c.peek-x.ensures
+          ∙ ap (λ (y : ℕ). min (count_trailing_zeros 64 y) n) (sym o)
       | else-v-eq0 w ↦
           let u : a.v ≡ 0 → ⊥ = w.if-v-eq0.false in
           let m : a.v ≤ 1 = k.requires.2 in
@@ -69,33 +70,30 @@ overflow_cast-k c = record { fits = omega (arith, trailing_le 64 c.if-v-eq0.othe
 
 pub overflow_add-result : goal.overflow_add-result
 overflow_add-result c =
-    let j = c in
-    let e : j.args.end < 2 ^ 64 = search rules in
+    let e : c.args.end < 2 ^ 64 = search rules in
     record { fits = omega (arith, (small (goal.at.overflow_add-result c).Joined-end-at-gt56).2, c.if-k-n.true, e) }
 
 pub returns-then-k-n : goal.returns-then-k-n
 returns-then-k-n c =
-    let j = c in
-    let a = j.args in
-    sym (j.loop-at.invariant.1 ∙ same_found a.bytes.now a.v j.loop-at.at j.if-end-at-gt56.n _ a.end (small (goal.at.returns-then-k-n c).Joined-end-at-gt56).2 (zeros (goal.at.returns-then-k-n c).Joined-v-eq0) c.if-k-n.true)
+    let a = c.args in
+    sym (c.loop-at.invariant.1 ∙ same_found a.bytes.now a.v c.loop-at.at c.if-end-at-gt56.n _ a.end (small (goal.at.returns-then-k-n c).Joined-end-at-gt56).2
+    (zeros (goal.at.returns-then-k-n c).Joined-v-eq0) c.if-k-n.true)
 
 pub overflow_add-at : goal.overflow_add-at
 overflow_add-at c =
-    let j = c in
-    let e : j.args.end < 2 ^ 64 = search rules in
+    let e : c.args.end < 2 ^ 64 = search rules in
     record { fits = omega (arith, (small (goal.at.overflow_add-at c).Joined-end-at-gt56).2, e) }
 
 pub loop-at-smaller : goal.loop-at-smaller
 loop-at-smaller c =
-    let j = c in
     omega (arith, (small (goal.at.loop-at-smaller c).Joined-end-at-gt56).1, (small (goal.at.loop-at-smaller c).Joined-end-at-gt56).2)
 
 pub loop-at-preserved : goal.loop-at-preserved
 loop-at-preserved c =
-    let j = c in
-    let a = j.args in
-    let h = same_on a.bytes.now a.v j.loop-at.at j.if-end-at-gt56.n _ a.end (small (goal.at.loop-at-preserved c).Joined-end-at-gt56).2 (zeros (goal.at.loop-at-preserved c).Joined-v-eq0) c.if-k-n.false in
-    ((small (goal.at.loop-at-preserved c).Joined-end-at-gt56).2, j.loop-at.invariant.1 ∙ h)
+    let a = c.args in
+    let h = same_on a.bytes.now a.v c.loop-at.at c.if-end-at-gt56.n _ a.end (small (goal.at.loop-at-preserved c).Joined-end-at-gt56).2
+    (zeros (goal.at.loop-at-preserved c).Joined-v-eq0) c.if-k-n.false in
+    ((small (goal.at.loop-at-preserved c).Joined-end-at-gt56).2, c.loop-at.invariant.1 ∙ h)
 
 pub returns : goal.returns
 returns c =

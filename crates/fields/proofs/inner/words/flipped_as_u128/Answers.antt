@@ -21,9 +21,14 @@ view_pair-x-requires c = record { width = c.requires.width; len_value = (room c)
 
 pub flip_low_pair-pair-requires : goal.flip_low_pair-pair-requires
 flip_low_pair-pair-requires c =
-    let t = c in
-    let s = t in
-    let e = sym c.count.ensures in record { width = s.requires.width; w_bound = (s.requires.w_bound, subst (λ (k : ℕ). 1 ≤ k) e (room (goal.at.flip_low_pair-pair-requires c).In-Done).low, subst (λ (k : ℕ). s.args.w * k ≤ 128) e (room (goal.at.flip_low_pair-pair-requires c).In-Done).fits) }
+    let e = sym c.count.ensures in record {
+      width = c.requires.width;
+      w_bound = (
+        c.requires.w_bound,
+        subst (λ (k : ℕ). 1 ≤ k) e (room (goal.at.flip_low_pair-pair-requires c).In-Done).low,
+        subst (λ (k : ℕ). c.args.w * k ≤ 128) e (room (goal.at.flip_low_pair-pair-requires c).In-Done).fits,
+      );
+    }
 
 pub returns-in-Refused : goal.returns-in-Refused
 unfolding flipped_as_u128
@@ -32,10 +37,9 @@ returns-in-Refused c = answer_refused _ _ _ (0, 0) (sym c.word_outcome.ensures �
 pub returns-in-Done : goal.returns-in-Done
 unfolding flipped_as_u128
 returns-in-Done c =
-    let t = c in
-    let a = t.args in
+    let a = c.args in
     let r = c.flip_low_pair-pair.result in
-    answer_done _ _ _ (0, 0) (sym t.word_outcome.ensures ∙ t.in-Done.is)
+    answer_done _ _ _ (0, 0) (sym c.word_outcome.ensures ∙ c.in-Done.is)
     (halves_are _ r.low r.high (search rules)
     (c.flip_low_pair-pair.ensures
     ∙ ap₂ (flip a.w (complement a.w)) c.count.ensures c.view_pair-x.ensures

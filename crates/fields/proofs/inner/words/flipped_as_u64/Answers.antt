@@ -19,9 +19,14 @@ view_word-x-requires c = record { width = c.requires.width; len_value = (room c)
 
 pub flip_low-requires : goal.flip_low-requires
 flip_low-requires c =
-    let t = c in
-    let s = t in
-    let e = sym c.count.ensures in record { width = s.requires.width; w_bound = (s.requires.w_bound, subst (λ (k : ℕ). 1 ≤ k) e (room (goal.at.flip_low-requires c).In-Done).low, subst (λ (k : ℕ). s.args.w * k ≤ 64) e (room (goal.at.flip_low-requires c).In-Done).fits) }
+    let e = sym c.count.ensures in record {
+      width = c.requires.width;
+      w_bound = (
+        c.requires.w_bound,
+        subst (λ (k : ℕ). 1 ≤ k) e (room (goal.at.flip_low-requires c).In-Done).low,
+        subst (λ (k : ℕ). c.args.w * k ≤ 64) e (room (goal.at.flip_low-requires c).In-Done).fits,
+      );
+    }
 
 pub returns-in-Refused : goal.returns-in-Refused
 unfolding flipped_as_u64
@@ -30,9 +35,8 @@ returns-in-Refused c = answer_refused _ _ _ 0 (sym c.word_outcome.ensures ∙ c.
 pub returns-in-Done : goal.returns-in-Done
 unfolding flipped_as_u64
 returns-in-Done c =
-    let t = c in
-    let a = t.args in
-    answer_done _ _ _ 0 (sym t.word_outcome.ensures ∙ t.in-Done.is)
+    let a = c.args in
+    answer_done _ _ _ 0 (sym c.word_outcome.ensures ∙ c.in-Done.is)
     (c.flip_low.ensures
     ∙ ap₂ (flip a.w (complement a.w)) c.count.ensures c.view_word-x.ensures
     ∙ flip-chars a.w (complement a.w) a.bytes.now a.offset.0 a.len.0)

@@ -8,13 +8,13 @@ use Rattle.fields.proofs.inner.words.view_pair.Goals.{After-count, After-count-2
 use Rattle.fields.proofs.inner.words.view_pair.Goals as goal
 
 start : (c : After-count) → let a = c.args in (a.w * c.count.result / 8 + 17 ≤ length a.bytes.now) × (a.w * c.count.result < 2 ^ 31)
-start c = let s = c in view_start s.requires.width s.args.bytes.now s.args.offset.0 s.args.len.0 s.requires.len_value _ c.count.ensures
+start c = view_start c.requires.width c.args.bytes.now c.args.offset.0 c.args.len.0 c.requires.len_value _ c.count.ensures
 
 pub overflow_mul-w : goal.overflow_mul-w
 overflow_mul-w c = record { fits = omega (arith, (start c).1) }
 
 fits : (c : After-count-2) → c.args.w * c.count-2.result ≤ 128
-fits c = let s = c in subst (λ (k : ℕ). s.args.w * k ≤ 128) (sym c.count-2.ensures) s.requires.len_bound
+fits c = subst (λ (k : ℕ). c.args.w * k ≤ 128) (sym c.count-2.ensures) c.requires.len_bound
 
 pub overflow_mul-w-2 : goal.overflow_mul-w-2
 overflow_mul-w-2 c = record { fits = omega (arith, fits c) }
@@ -24,9 +24,7 @@ bits_pair_at-requires c = (fits c, omega (arith, (start (goal.at.bits_pair_at-re
 
 pub returns : goal.returns
 returns c =
-    let k = c in
-    let s = k in
-    let a = s.args in
+    let a = c.args in
     c.bits_pair_at.ensures
-    ∙ view_field s.requires.width a.bytes.now a.offset.0 a.len.0 s.requires.len_value _ k.count.ensures
-    (λ i. omega (arith, k.shared_slice_known-1.given i)) _ c.count-2.ensures
+    ∙ view_field c.requires.width a.bytes.now a.offset.0 a.len.0 c.requires.len_value _ c.count.ensures
+    (λ i. omega (arith, c.shared_slice_known-1.given i)) _ c.count-2.ensures

@@ -8,7 +8,6 @@ use Rattle.fields.proofs.inner.words.word_outcome.Goals as goal
 
 pub returns : goal.returns
 returns c =
-    let t = c in
-    let a = t.args in
+    let a = c.args in
     first_then (view_tests a.w (length a.bytes.now) a.offset.0 a.len.0) (bad_word a.least (a.bits / a.w) a.len.0) _ _ _
-    t.view_outcome-view.ensures (c.bad_word.ensures ∙ ap (λ (k : ℕ). (bad_word a.least k a.len.0).0) t.over_width.ensures) c.refuse_if.ensures
+    c.view_outcome-view.ensures (c.bad_word.ensures ∙ ap (λ (k : ℕ). (bad_word a.least k a.len.0).0) c.over_width.ensures) c.refuse_if.ensures

@@ -9,8 +9,7 @@ use Rattle.fields.proofs.inner.writes.store16.Goals as goal
 
 pub returns : goal.returns
 returns c =
-    let s = c in
-    let a = s.args in
+    let a = c.args in
     c.store8-2.ensures
-    ∙ ap (λ (d : List ℕ). sets d (a.at + 1) (chars_of 8 1 (a.x / 2 ^ 8))) s.store8.ensures
+    ∙ ap (λ (d : List ℕ). sets d (a.at + 1) (chars_of 8 1 (a.x / 2 ^ 8))) c.store8.ensures
     ∙ sets_more a.out.now a.at 1 1 a.x

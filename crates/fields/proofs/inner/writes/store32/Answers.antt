@@ -9,8 +9,7 @@ use Rattle.fields.proofs.inner.writes.store32.Goals as goal
 
 pub returns : goal.returns
 returns c =
-    let s = c in
-    let a = s.args in
+    let a = c.args in
     c.store16-2.ensures
-    ∙ ap (λ (d : List ℕ). sets d (a.at + 2) (chars_of 8 2 (a.x / 2 ^ 16))) s.store16.ensures
+    ∙ ap (λ (d : List ℕ). sets d (a.at + 2) (chars_of 8 2 (a.x / 2 ^ 16))) c.store16.ensures
     ∙ sets_more a.out.now a.at 2 2 a.x

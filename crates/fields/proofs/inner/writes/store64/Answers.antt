@@ -9,8 +9,7 @@ use Rattle.fields.proofs.inner.writes.store64.Goals as goal
 
 pub returns : goal.returns
 returns c =
-    let s = c in
-    let a = s.args in
+    let a = c.args in
     c.store32-2.ensures
-    ∙ ap (λ (d : List ℕ). sets d (a.at + 4) (chars_of 8 4 (a.x / 2 ^ 32))) s.store32.ensures
+    ∙ ap (λ (d : List ℕ). sets d (a.at + 4) (chars_of 8 4 (a.x / 2 ^ 32))) c.store32.ensures
     ∙ sets_more a.out.now a.at 4 4 a.x

@@ -30,11 +30,17 @@ returns-then-too_long-2 c =
 
 pub returns-then-too_long-3 : goal.returns-then-too_long-3
 returns-then-too_long-3 c =
-    answer_at 2 (tests (goal.at.returns-then-too_long-3 c).Start) TooLong _ (0, 0) refl (passed_1 (goal.at.returns-then-too_long-3 c).Else-too_long, (passed_2 (goal.at.returns-then-too_long-3 c).Else-too_long-2, sym c.too_long-3.ensures ∙ c.if-too_long-3.true))
+    answer_at 2 (tests (goal.at.returns-then-too_long-3 c).Start) TooLong _ (0, 0) refl (
+      passed_1 (goal.at.returns-then-too_long-3 c).Else-too_long,
+      (passed_2 (goal.at.returns-then-too_long-3 c).Else-too_long-2, sym c.too_long-3.ensures ∙ c.if-too_long-3.true),
+    )
 
 pub returns : goal.returns
 returns c =
     let f = c.args.form.now in
     c.judge.ensures
     ∙ ap (λ (o : Outcome). answer o (form_length f, body_of (head_of f)) (0, 0))
-    (first_past 3 (tests (goal.at.returns c).Start) (passed_1 (goal.at.returns c).Else-too_long, (passed_2 (goal.at.returns c).Else-too_long-2, (sym c.too_long-3.ensures ∙ c.if-too_long-3.false, tt))))
+    (first_past 3 (tests (goal.at.returns c).Start) (
+      passed_1 (goal.at.returns c).Else-too_long,
+      (passed_2 (goal.at.returns c).Else-too_long-2, (sym c.too_long-3.ensures ∙ c.if-too_long-3.false, tt)),
+    ))

@@ -26,7 +26,8 @@ small c =
 judged : (c : After-right_tracks) → is_form c.args.form.now ≡ c.right_tracks.result
 judged c =
     let f = c.args.form.now in
-    is_form-tracks f (read (goal.at.After-right_tracks c).In-Is) (is (goal.at.After-right_tracks c).In-Is) c.if-value-gt-MOST.false ∙ sym (c.right_tracks.ensures ∙ ap (right_tracks f (read (goal.at.After-right_tracks c).In-Is).value) (add-one (read (goal.at.After-right_tracks c).In-Is).size))
+    is_form-tracks f (read (goal.at.After-right_tracks c).In-Is) (is (goal.at.After-right_tracks c).In-Is) c.if-value-gt-MOST.false
+    ∙ sym (c.right_tracks.ensures ∙ ap (right_tracks f (read (goal.at.After-right_tracks c).In-Is).value) (add-one (read (goal.at.After-right_tracks c).In-Is).size))
 
 pub returns-then-value-gt-MOST : goal.returns-then-value-gt-MOST
 returns-then-value-gt-MOST c = rw (is_form-long _ (read (goal.at.returns-then-value-gt-MOST c).In-Is) (is (goal.at.returns-then-value-gt-MOST c).In-Is) c.if-value-gt-MOST.true)

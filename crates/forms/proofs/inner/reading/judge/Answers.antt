@@ -42,11 +42,17 @@ flags c =
 
 pub returns-then-bad_store : goal.returns-then-bad_store
 returns-then-bad_store c =
-    answer_at 1 (tests (goal.at.returns-then-bad_store c).Start) NoRoom _ (0, 0) refl (ap not (good (goal.at.returns-then-bad_store c).In-Is).accepted, bases (goal.at.returns-then-bad_store c).After-bad_store ∙ c.if-bad_store.true)
+    answer_at 1 (tests (goal.at.returns-then-bad_store c).Start) NoRoom _ (0, 0) refl (
+      ap not (good (goal.at.returns-then-bad_store c).In-Is).accepted,
+      bases (goal.at.returns-then-bad_store c).After-bad_store ∙ c.if-bad_store.true,
+    )
 
 pub returns-then-bad_store-2 : goal.returns-then-bad_store-2
 returns-then-bad_store-2 c =
-    answer_at 2 (tests (goal.at.returns-then-bad_store-2 c).Start) NoRoom _ (0, 0) refl (ap not (good (goal.at.returns-then-bad_store-2 c).In-Is).accepted, (bases (goal.at.returns-then-bad_store-2 c).After-bad_store ∙ c.if-bad_store.false, flags (goal.at.returns-then-bad_store-2 c).After-bad_store-in-Is ∙ c.if-bad_store-2.true))
+    answer_at 2 (tests (goal.at.returns-then-bad_store-2 c).Start) NoRoom _ (0, 0) refl (
+      ap not (good (goal.at.returns-then-bad_store-2 c).In-Is).accepted,
+      (bases (goal.at.returns-then-bad_store-2 c).After-bad_store ∙ c.if-bad_store.false, flags (goal.at.returns-then-bad_store-2 c).After-bad_store-in-Is ∙ c.if-bad_store-2.true),
+    )
 
 pub overflow_add-result : goal.overflow_add-result
 overflow_add-result c = omega (arith, (good (goal.at.overflow_add-result c).In-Is).short)
@@ -59,5 +65,8 @@ pub returns-else-bad_store-2 : goal.returns-else-bad_store-2
 returns-else-bad_store-2 c =
     let f = c.args.form.now in
     answer_done (first (tests (goal.at.returns-else-bad_store-2 c).Start)) _ (form_length f, body_of (head_of f)) (0, 0)
-    (sym (first_at 3 (tests (goal.at.returns-else-bad_store-2 c).Start) (ap not (good (goal.at.returns-else-bad_store-2 c).In-Is).accepted, (bases (goal.at.returns-else-bad_store-2 c).After-bad_store ∙ c.if-bad_store.false, (flags (goal.at.returns-else-bad_store-2 c).After-bad_store-in-Is ∙ c.if-bad_store-2.false, tt)))))
+    (sym (first_at 3 (tests (goal.at.returns-else-bad_store-2 c).Start) (
+      ap not (good (goal.at.returns-else-bad_store-2 c).In-Is).accepted,
+      (bases (goal.at.returns-else-bad_store-2 c).After-bad_store ∙ c.if-bad_store.false, (flags (goal.at.returns-else-bad_store-2 c).After-bad_store-in-Is ∙ c.if-bad_store-2.false, tt)),
+    )))
     (ap₂ (λ (m n : ℕ). (m, n)) (sym (good (goal.at.returns-else-bad_store-2 c).In-Is).long) (add-one _ ∙ sym (ap body_of (good (goal.at.returns-else-bad_store-2 c).In-Is).head)))

@@ -20,7 +20,8 @@ flags c = c.count-2.ensures ∙ c.bytes_for-2.ensures ∙ ap (up 1) c.new-2.ensu
 
 pub returns-then-form-end : goal.returns-then-form-end
 returns-then-form-end c =
-    tracks_end c.args.form.now c.args.n c.args.body (λ e. c.if-form-end.true (e ∙ omega (arith, bases (goal.at.returns-then-form-end c).After-count-2, flags (goal.at.returns-then-form-end c).After-count-2)))
+    tracks_end c.args.form.now c.args.n c.args.body (λ e. c.if-form-end.true (e
+    ∙ omega (arith, bases (goal.at.returns-then-form-end c).After-count-2, flags (goal.at.returns-then-form-end c).After-count-2)))
 
 all : (c : Else-form-end) → (let a = c.args in length a.form.now ≡ a.body + (up 2 a.n + up 1 a.n))
 all c = c.if-form-end.false ∙ omega (arith, bases (goal.at.Else-form-end c).After-count-2, flags (goal.at.Else-form-end c).After-count-2)

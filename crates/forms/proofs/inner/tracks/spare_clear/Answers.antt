@@ -29,7 +29,8 @@ byte c = c.count-last.ensures ∙ c.byte_of.ensures ∙ ap (λ (x : ℕ). x / pe
 
 pub bounds-track-last : goal.bounds-track-last
 bounds-track-last c =
-    subst (λ (x : ℕ). x < length c.args.track.now) (sym (byte (goal.at.bounds-track-last c).After-count-last)) (spare_place c.requires.width _ _ c.requires.track_len (λ e. c.if-k-eq0.false (place (goal.at.bounds-track-last c).After-count-k ∙ e)))
+    subst (λ (x : ℕ). x < length c.args.track.now) (sym (byte (goal.at.bounds-track-last c).After-count-last))
+    (spare_place c.requires.width _ _ c.requires.track_len (λ e. c.if-k-eq0.false (place (goal.at.bounds-track-last c).After-count-k ∙ e)))
 
 pub overflow_mul-result : goal.overflow_mul-result
 overflow_mul-result c = omega (arith, shift (goal.at.overflow_mul-result c).After-count-k)
@@ -44,4 +45,5 @@ pub returns : goal.returns
 returns c =
     let a = c.args in
     ap₂ (λ (x y : ℕ). eqb (get_or a.track.now x 0 / 2 ^ (a.w * y)) 0) (byte (goal.at.returns c).After-count-last) (place (goal.at.returns c).After-count-k)
-    ∙ sym (spare_last c.requires.width _ a.track.now (Below-of 8 a.track.now (λ j. (c.type_inv.track j).fits)) c.requires.track_len (λ e. c.if-k-eq0.false (place (goal.at.returns c).After-count-k ∙ e)))
+    ∙ sym (spare_last c.requires.width _ a.track.now (Below-of 8 a.track.now (λ j. (c.type_inv.track j).fits)) c.requires.track_len
+    (λ e. c.if-k-eq0.false (place (goal.at.returns c).After-count-k ∙ e)))

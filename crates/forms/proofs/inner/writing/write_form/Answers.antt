@@ -50,12 +50,29 @@ write_head-requires c = (omega (arith, c.count-n.ensures), omega (arith, room (g
 pub write_track-requires : goal.write_track-requires
 write_track-requires c =
     let a = c.args in
-    let l : length c.write_head.new.out ≡ length a.out.now = search rules in record { width = width_2; len_value = subst (λ (x : ℕ). first (view_tests 2 (length a.bases.now) a.ao x) ≡ Done) (sym (n_is (goal.at.write_track-requires c).After-count)) c.requires.len_value; len_in_bounds = omega (arith, room (goal.at.write_track-requires c).After-count, base_at_lem (goal.at.write_track-requires c).After-count) }
+    let l : length c.write_head.new.out ≡ length a.out.now = search rules in
+    record {
+      width = width_2;
+      len_value = subst (λ (x : ℕ). first (view_tests 2 (length a.bases.now) a.ao x) ≡ Done) (sym (n_is (goal.at.write_track-requires c).After-count))
+          c.requires.len_value;
+      len_in_bounds = omega (arith, room (goal.at.write_track-requires c).After-count, base_at_lem (goal.at.write_track-requires c).After-count);
+    }
 
 pub write_track-requires-2 : goal.write_track-requires-2
 write_track-requires-2 c =
     let a = c.args in
-    let l : length c.write_track.new.out ≡ length a.out.now = search rules in record { width = width_1; len_value = subst (λ (x : ℕ). first (view_tests 1 (length a.flags.now) a.bo x) ≡ Done) (sym (n_is (goal.at.write_track-requires-2 c).After-count)) c.requires.len_value_2; len_in_bounds = omega (arith, room (goal.at.write_track-requires-2 c).After-count, base_at_lem (goal.at.write_track-requires-2 c).After-count, flag_at_lem (goal.at.write_track-requires-2 c).After-count) }
+    let l : length c.write_track.new.out ≡ length a.out.now = search rules in
+    record {
+      width = width_1;
+      len_value = subst (λ (x : ℕ). first (view_tests 1 (length a.flags.now) a.bo x) ≡ Done) (sym (n_is (goal.at.write_track-requires-2 c).After-count))
+          c.requires.len_value_2;
+      len_in_bounds = omega (
+        arith,
+        room (goal.at.write_track-requires-2 c).After-count,
+        base_at_lem (goal.at.write_track-requires-2 c).After-count,
+        flag_at_lem (goal.at.write_track-requires-2 c).After-count,
+      );
+    }
 
 pub returns : goal.returns
 returns c =

@@ -35,7 +35,10 @@ bad_view-requires c = record { width = width_2; n_bound = ltb-false _ _ (passed_
 
 pub returns-then-bad_view : goal.returns-then-bad_view
 returns-then-bad_view c =
-    first_at 2 (tests (goal.at.returns-then-bad_view c).Start) (passed_1 (goal.at.returns-then-bad_view c).Else-too_long, (passed_2 (goal.at.returns-then-bad_view c).Else-too_long-2, sym c.bad_view.ensures ∙ c.if-bad_view.true))
+    first_at 2 (tests (goal.at.returns-then-bad_view c).Start) (
+      passed_1 (goal.at.returns-then-bad_view c).Else-too_long,
+      (passed_2 (goal.at.returns-then-bad_view c).Else-too_long-2, sym c.bad_view.ensures ∙ c.if-bad_view.true),
+    )
 
 pub bad_view-requires-2 : goal.bad_view-requires-2
 bad_view-requires-2 c = record { width = width_1; n_bound = ltb-false _ _ (passed_2 (goal.at.bad_view-requires-2 c).Else-too_long-2) }
@@ -45,14 +48,20 @@ passed_3 c = sym c.bad_view.ensures ∙ c.if-bad_view.false
 
 pub returns-then-bad_view-2 : goal.returns-then-bad_view-2
 returns-then-bad_view-2 c =
-    first_at 3 (tests (goal.at.returns-then-bad_view-2 c).Start) (passed_1 (goal.at.returns-then-bad_view-2 c).Else-too_long, (passed_2 (goal.at.returns-then-bad_view-2 c).Else-too_long-2, (passed_3 (goal.at.returns-then-bad_view-2 c).Else-bad_view, sym c.bad_view-2.ensures ∙ c.if-bad_view-2.true)))
+    first_at 3 (tests (goal.at.returns-then-bad_view-2 c).Start) (
+      passed_1 (goal.at.returns-then-bad_view-2 c).Else-too_long,
+      (passed_2 (goal.at.returns-then-bad_view-2 c).Else-too_long-2, (passed_3 (goal.at.returns-then-bad_view-2 c).Else-bad_view, sym c.bad_view-2.ensures ∙ c.if-bad_view-2.true)),
+    )
 
 module _ (c : Else-bad_view-2) where
   -- the four tests of the views do not hold, and the others stop at the k-th
   views_right : (k : ℕ) → Stops k (bad_tracks c.args.al.0 c.args.bl.0 ∷ no_room c.args.room (form_size c.args.al.0) ∷ [])
       → refused_at (suc (suc (suc (suc k)))) (tests (goal.at.Else-bad_view-2 c).Start) ≡ first (tests (goal.at.Else-bad_view-2 c).Start)
   views_right k h =
-      first_at (suc (suc (suc (suc k)))) (tests (goal.at.Else-bad_view-2 c).Start) (passed_1 (goal.at.Else-bad_view-2 c).Else-too_long, (passed_2 (goal.at.Else-bad_view-2 c).Else-too_long-2, (passed_3 (goal.at.Else-bad_view-2 c).Else-bad_view, (sym c.bad_view-2.ensures ∙ c.if-bad_view-2.false, h))))
+      first_at (suc (suc (suc (suc k)))) (tests (goal.at.Else-bad_view-2 c).Start) (
+        passed_1 (goal.at.Else-bad_view-2 c).Else-too_long,
+        (passed_2 (goal.at.Else-bad_view-2 c).Else-too_long-2, (passed_3 (goal.at.Else-bad_view-2 c).Else-bad_view, (sym c.bad_view-2.ensures ∙ c.if-bad_view-2.false, h))),
+      )
 
 pub returns-then-count : goal.returns-then-count
 returns-then-count c = views_right (goal.at.returns-then-count c).Else-bad_view-2 0 (tracks_differ _ _ (λ e. c.if-count.true (c.count.ensures ∙ e ∙ sym c.count-2.ensures)))
@@ -62,7 +71,8 @@ same : (c : Else-count) → (let a = c.args in a.al.0 ≡ a.bl.0)
 same c = sym c.count.ensures ∙ c.if-count.false ∙ c.count-2.ensures
 
 pub returns-then-count-gt-MOST : goal.returns-then-count-gt-MOST
-returns-then-count-gt-MOST c = views_right (goal.at.returns-then-count-gt-MOST c).Else-bad_view-2 0 (tracks_long _ _ (same (goal.at.returns-then-count-gt-MOST c).Else-count) (omega (arith, c.count-3.ensures)))
+returns-then-count-gt-MOST c = views_right (goal.at.returns-then-count-gt-MOST c).Else-bad_view-2 0
+    (tracks_long _ _ (same (goal.at.returns-then-count-gt-MOST c).Else-count) (omega (arith, c.count-3.ensures)))
 
 -- and at most 2^29
 tracks : (c : Else-count-gt-MOST) → (let a = c.args in (bad_tracks a.al.0 a.bl.0).0 ≡ false)
@@ -71,7 +81,10 @@ tracks c = tracks_right _ _ (same (goal.at.Else-count-gt-MOST c).Else-count) (om
 pub returns-then-room-count : goal.returns-then-room-count
 returns-then-room-count c =
     let a = c.args in
-    views_right (goal.at.returns-then-room-count c).Else-bad_view-2 1 (tracks (goal.at.returns-then-room-count c).Else-count-gt-MOST, lt-ltb a.room (form_size a.al.0) (omega (arith, c.count-4.ensures, c.form_size.ensures)))
+    views_right (goal.at.returns-then-room-count c).Else-bad_view-2 1 (
+      tracks (goal.at.returns-then-room-count c).Else-count-gt-MOST,
+      lt-ltb a.room (form_size a.al.0) (omega (arith, c.count-4.ensures, c.form_size.ensures)),
+    )
 
 pub returns : goal.returns
 returns c =

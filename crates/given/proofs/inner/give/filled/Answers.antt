@@ -4,12 +4,6 @@ use Rattle.streams.specs.Answers.{filled_says}
 use Rattle.given.proofs.Said.{said-no, said-2}
 use Rattle.given.proofs.inner.give.filled.Goals as goal
 
-pub count-requires : goal.count-requires
-count-requires c = tt
-
-pub refusal_no-requires : goal.refusal_no-requires
-refusal_no-requires c = tt
-
 pub returns-in-Is : goal.returns-in-Is
 returns-in-Is c = said-2 0 refl c.count.ensures ∙ sym (ap filled_says c.in-Is.is)
 

@@ -4,12 +4,6 @@ use Rattle.order.specs.Answers.{found_says}
 use Rattle.given.proofs.Said.{said-no, said-2}
 use Rattle.given.proofs.inner.give.found.Goals as goal
 
-pub count-requires : goal.count-requires
-count-requires c = tt
-
-pub refusal_no-requires : goal.refusal_no-requires
-refusal_no-requires c = tt
-
 pub returns-in-At : goal.returns-in-At
 returns-in-At c = said-2 0 refl c.count.ensures ∙ sym (ap found_says c.in-At.is)
 

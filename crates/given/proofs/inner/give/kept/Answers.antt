@@ -4,15 +4,6 @@ use Rattle.stores.specs.Answers.{kept_says}
 use Rattle.given.proofs.Said.{said-no, said-3}
 use Rattle.given.proofs.inner.give.kept.Goals as goal
 
-pub count-requires : goal.count-requires
-count-requires c = tt
-
-pub count-requires-in-Refused : goal.count-requires-in-Refused
-count-requires-in-Refused c = tt
-
-pub refusal_no-requires : goal.refusal_no-requires
-refusal_no-requires c = tt
-
 pub returns-in-Done : goal.returns-in-Done
 returns-in-Done c = said-3 0 refl refl c.count.ensures ∙ sym (ap kept_says c.in-Done.is)
 

@@ -6,9 +6,6 @@ use Rattle.given.specs.Face.{Part, no_part}
 use Rattle.given.proofs.Said.{said-no}
 use Rattle.given.proofs.inner.give.part.Goals as goal
 
-pub refusal_no-requires : goal.refusal_no-requires
-refusal_no-requires c = tt
-
 pub returns-in-Done : goal.returns-in-Done
 returns-in-Done c =
     let a = c.args in

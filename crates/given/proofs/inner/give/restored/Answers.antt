@@ -4,12 +4,6 @@ use Rattle.forms.specs.Answers.{restored_says}
 use Rattle.given.proofs.Said.{said-no, said-1}
 use Rattle.given.proofs.inner.give.restored.Goals as goal
 
-pub count-requires : goal.count-requires
-count-requires c = tt
-
-pub refusal_no-requires : goal.refusal_no-requires
-refusal_no-requires c = tt
-
 pub returns-in-Is : goal.returns-in-Is
 returns-in-Is c = said-1 0 c.count.ensures ∙ sym (ap restored_says c.in-Is.is)
 

@@ -4,15 +4,6 @@ use Rattle.streams.specs.Answers.{shape_says}
 use Rattle.given.proofs.Said.{said-no, said-3}
 use Rattle.given.proofs.inner.give.shape.Goals as goal
 
-pub count-requires : goal.count-requires
-count-requires c = tt
-
-pub count-requires-in-Is : goal.count-requires-in-Is
-count-requires-in-Is c = tt
-
-pub refusal_no-requires : goal.refusal_no-requires
-refusal_no-requires c = tt
-
 pub returns-in-Is : goal.returns-in-Is
 returns-in-Is c = said-3 0 c.count.ensures refl c.count-in-Is.ensures ∙ sym (ap shape_says c.in-Is.is)
 

@@ -4,9 +4,6 @@ use Rattle.codes.specs.Answers.{symbol_says}
 use Rattle.given.proofs.Said.{said-no}
 use Rattle.given.proofs.inner.give.symbol.Goals as goal
 
-pub refusal_no-requires : goal.refusal_no-requires
-refusal_no-requires c = tt
-
 pub returns-in-Is : goal.returns-in-Is
 returns-in-Is c = sym (ap symbol_says c.in-Is.is)
 

@@ -33,7 +33,7 @@ module _ (s : Start) where
   place h = view_word s.args.w (length s.args.bytes.now) s.args.offset s.args.len i at bits (le_of_lt h) refl
 
 pub returns-then-j-d : goal.returns-then-j-d
-returns-then-j-d c = let s = c in lane_char-early (cs (goal.at.returns-then-j-d c).Start) s.args.n s.args.d s.args.j s.args.l c.if-j-d.true
+returns-then-j-d c = lane_char-early (cs (goal.at.returns-then-j-d c).Start) c.args.n c.args.d c.args.j c.args.l c.if-j-d.true
 
 pub overflow_mul-i : goal.overflow_mul-i
 overflow_mul-i c = omega (arith, (few (goal.at.overflow_mul-i c).Start).0)
@@ -43,9 +43,9 @@ overflow_add-i c = omega (arith, (few (goal.at.overflow_add-i c).Start).1)
 
 pub returns-then-len-i : goal.returns-then-len-i
 returns-then-len-i c =
-    let s = c in
-    let a = s.args in
-    char_past s.requires.width a.bytes.now (Below-of 8 c.args.bytes.now (λ i. omega (arith, c.type_inv.bytes i))) a.offset a.len (i (goal.at.returns-then-len-i c).Start) c.if-len-i.true ∙ lane_char-late (cs (goal.at.returns-then-len-i c).Start) a.n a.d a.j a.l c.if-j-d.false
+    let a = c.args in
+    char_past c.requires.width a.bytes.now (Below-of 8 c.args.bytes.now (λ i. omega (arith, c.type_inv.bytes i))) a.offset a.len (i (goal.at.returns-then-len-i c).Start)
+    c.if-len-i.true ∙ lane_char-late (cs (goal.at.returns-then-len-i c).Start) a.n a.d a.j a.l c.if-j-d.false
 
 pub overflow_add-offset : goal.overflow_add-offset
 overflow_add-offset c = omega (arith, (bits (goal.at.overflow_add-offset c).Start).short)
@@ -54,16 +54,14 @@ pub overflow_mul-w : goal.overflow_mul-w
 overflow_mul-w c = omega (arith, (place (goal.at.overflow_mul-w c).Start c.if-len-i.false).1)
 
 pub bits_at-requires : goal.bits_at-requires
-bits_at-requires c = let s = c in (omega (arith, s.requires.width.small), omega (arith, (place (goal.at.bits_at-requires c).Start c.if-len-i.false).0))
+bits_at-requires c = (omega (arith, c.requires.width.small), omega (arith, (place (goal.at.bits_at-requires c).Start c.if-len-i.false).0))
 
 pub narrow-requires : goal.narrow-requires
 narrow-requires c = rw c.bits_at.ensures (field-small c.requires.width _)
 
 pub returns : goal.returns
 returns c =
-    let t = c in
-    let s = t in
-    let a = s.args in
+    let a = c.args in
     c.narrow.ensures ∙ c.bits_at.ensures
-    ∙ char_within s.requires.width a.bytes.now (Below-of 8 c.args.bytes.now (λ i. omega (arith, c.type_inv.bytes i))) a.offset a.len (i (goal.at.returns c).Start) t.if-len-i.false
-    ∙ lane_char-late (cs (goal.at.returns c).Start) a.n a.d a.j a.l t.if-j-d.false
+    ∙ char_within c.requires.width a.bytes.now (Below-of 8 c.args.bytes.now (λ i. omega (arith, c.type_inv.bytes i))) a.offset a.len (i (goal.at.returns c).Start) c.if-len-i.false
+    ∙ lane_char-late (cs (goal.at.returns c).Start) a.n a.d a.j a.l c.if-j-d.false

@@ -8,7 +8,7 @@ pub loop-l-init : goal.loop-l-init
 loop-l-init c = (omega arith, made_none (omega arith))
 
 pub lane_char-requires : goal.lane_char-requires
-lane_char-requires c = let s = c in record { width = s.requires.width; len_value = s.requires.len_value; n_bound = (s.requires.n_bound.0, s.requires.n_bound.1, omega arith) }
+lane_char-requires c = record { width = c.requires.width; len_value = c.requires.len_value; n_bound = (c.requires.n_bound.0, c.requires.n_bound.1, omega arith) }
 
 pub offset_bounds-out-l : goal.offset_bounds-out-l
 offset_bounds-out-l c = omega arith

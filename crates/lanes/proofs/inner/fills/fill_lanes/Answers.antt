@@ -49,7 +49,11 @@ pub overflow_sub-j : goal.overflow_sub-j
 overflow_sub-j c = late (goal.at.overflow_sub-j c).After-zero_entries c.loop-j.j c.loop-j.invariant.0 (omega arith)
 
 pub lane_words-words-requires : goal.lane_words-words-requires
-lane_words-words-requires c = let p = c in record { width = p.requires.width; len_value = p.requires.len_value; turn_value = (turn_is (goal.at.lane_words-words-requires c).After-zero_entries, p.requires.n_bound.0, omega arith) }
+lane_words-words-requires c = record {
+  width = c.requires.width;
+  len_value = c.requires.len_value;
+  turn_value = (turn_is (goal.at.lane_words-words-requires c).After-zero_entries, c.requires.n_bound.0, omega arith);
+}
 
 pub overflow_sub-steps : goal.overflow_sub-steps
 overflow_sub-steps c = omega arith
@@ -79,9 +83,15 @@ overflow_mul-j c = omega arith
 
 pub write_turn-requires : goal.write_turn-requires
 write_turn-requires c =
-    let k = c in
-    let w = k.args.w in
-    let long = k.loop-j.invariant.2.long ∙ k.zero_entries.ensures.long in record { width = k.requires.width; count_bound = (le_trans (mul-le-mul_left w (count_left (goal.at.write_turn-requires c).After-smaller-count)) (mul-div-le 64 w), omega (arith, count_right (goal.at.write_turn-requires c).After-smaller-count, k.requires.n_bound.2)) }
+    let w = c.args.w in
+    let long = c.loop-j.invariant.2.long ∙ c.zero_entries.ensures.long in
+    record {
+      width = c.requires.width;
+      count_bound = (
+        le_trans (mul-le-mul_left w (count_left (goal.at.write_turn-requires c).After-smaller-count)) (mul-div-le 64 w),
+        omega (arith, count_right (goal.at.write_turn-requires c).After-smaller-count, c.requires.n_bound.2),
+      );
+    }
 
 pub overflow_add-j : goal.overflow_add-j
 overflow_add-j c = omega arith
@@ -91,14 +101,14 @@ loop-j-smaller c = omega (arith, forward (goal.at.loop-j-smaller c).After-smalle
 
 pub loop-j-preserved : goal.loop-j-preserved
 loop-j-preserved c =
-    let k = c in
-    let o = k.loop-j in
-    let a = k.args in
-    let words = k.lane_words-words in
+    let o = c.loop-j in
+    let a = c.args in
+    let words = c.lane_words-words in
     let h = late (goal.at.loop-j-preserved c).After-zero_entries o.j o.invariant.0 (omega arith) in (
       omega arith,
       omega (arith, count_right (goal.at.loop-j-preserved c).After-smaller-count),
-      filled_more a.w (cs (goal.at.loop-j-preserved c).After-zero_entries) a.n a.d o.j k.smaller-count.result words.result h (count_left (goal.at.loop-j-preserved c).After-smaller-count) words.ensures o.invariant.2 c.write_turn.ensures o.invariant.0,
+      filled_more a.w (cs (goal.at.loop-j-preserved c).After-zero_entries) a.n a.d o.j c.smaller-count.result words.result h
+          (count_left (goal.at.loop-j-preserved c).After-smaller-count) words.ensures o.invariant.2 c.write_turn.ensures o.invariant.0,
     )
 
 pub shape_of-out : goal.shape_of-out
@@ -107,7 +117,7 @@ shape_of-out c = c.loop-j.invariant.2.long ∙ c.zero_entries.ensures.long
 pub returns : goal.returns
 unfolding filled
 returns c =
-    let p = c in
-    let a = p.args in
-    let front = filled-early (cs (goal.at.returns c).After-zero_entries) a.n a.d (start (goal.at.returns c).After-zero_entries) (start_left (goal.at.returns c).After-zero_entries) p.zero_entries.ensures in
-    made-is (made-on front (made-to {to = 8 * a.steps} c.loop-j.invariant.2 (omega arith)) (omega arith) (omega (arith, start_right (goal.at.returns c).After-zero_entries))) p.requires.n_bound.2
+    let a = c.args in
+    let front = filled-early (cs (goal.at.returns c).After-zero_entries) a.n a.d (start (goal.at.returns c).After-zero_entries) (start_left (goal.at.returns c).After-zero_entries)
+    c.zero_entries.ensures in
+    made-is (made-on front (made-to {to = 8 * a.steps} c.loop-j.invariant.2 (omega arith)) (omega arith) (omega (arith, start_right (goal.at.returns c).After-zero_entries))) c.requires.n_bound.2

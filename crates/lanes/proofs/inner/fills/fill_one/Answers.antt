@@ -18,14 +18,14 @@ plan_of-p-requires c = record { width = c.requires.width; factor_value = (opened
 
 pub fill_lanes-requires : goal.fill_lanes-requires
 fill_lanes-requires c =
-    let o = c in
-    let s = o in
     let z = sized (goal.at.fill_lanes-requires c).Start in
-    let p = o.plan_of-p.ensures in record { width = s.requires.width; len_value = rw (o.count.ensures, c.count-2.ensures) (opened (goal.at.fill_lanes-requires c).Start).view; n_bound = (omega arith, omega arith, omega (arith, s.requires.factor_in_bounds)) }
+    let p = c.plan_of-p.ensures in record {
+      width = c.requires.width;
+      len_value = rw (c.count.ensures, c.count-2.ensures) (opened (goal.at.fill_lanes-requires c).Start).view;
+      n_bound = (omega arith, omega arith, omega (arith, c.requires.factor_in_bounds));
+    }
 
 pub returns : goal.returns
 returns c =
-    let e = c in
-    let o = e in
-    let p = o.plan_of-p.ensures in
-    c.fill_lanes.ensures ∙ rw (o.count.ensures, e.count-2.ensures, e.count-3.ensures, p.lane, p.steps)
+    let p = c.plan_of-p.ensures in
+    c.fill_lanes.ensures ∙ rw (c.count.ensures, c.count-2.ensures, c.count-3.ensures, p.lane, p.steps)

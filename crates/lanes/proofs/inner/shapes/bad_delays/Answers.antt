@@ -12,6 +12,5 @@ returns-then-e-gt-MOST c = let a = c.args in simp (le-ltb (2 ^ 31) a.first.0 (om
 
 pub returns : goal.returns
 returns c =
-    let k = c in
-    let a = k.args in
-    rw (k.count-d.ensures, k.count-e.ensures) (simp (le-ltb (2 ^ 31) a.first.0 (omega arith), le-ltb (2 ^ 31) a.second.0 (omega arith)))
+    let a = c.args in
+    rw (c.count-d.ensures, c.count-e.ensures) (simp (le-ltb (2 ^ 31) a.first.0 (omega arith), le-ltb (2 ^ 31) a.second.0 (omega arith)))

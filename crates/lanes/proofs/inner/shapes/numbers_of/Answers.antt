@@ -11,13 +11,13 @@ pub starts_of-s-requires : goal.starts_of-s-requires
 starts_of-s-requires c = (shape_ranges c.args.context c.args.factor c.requires.factor_value).0
 
 pub overflow_sub-factor : goal.overflow_sub-factor
-overflow_sub-factor c = let s = c in omega (arith, (shape_ranges s.args.context s.args.factor s.requires.factor_value).2)
+overflow_sub-factor c = omega (arith, (shape_ranges c.args.context c.args.factor c.requires.factor_value).2)
 
 pub overflow_add-factor : goal.overflow_add-factor
-overflow_add-factor c = let s = c in omega (arith, c.power.ensures.1, (shape_ranges s.args.context s.args.factor s.requires.factor_value).3)
+overflow_add-factor c = omega (arith, c.power.ensures.1, (shape_ranges c.args.context c.args.factor c.requires.factor_value).3)
 
 pub lane_of-n-requires : goal.lane_of-n-requires
-lane_of-n-requires c = let s = c in omega (arith, c.power.ensures.1, (shape_ranges s.args.context s.args.factor s.requires.factor_value).3)
+lane_of-n-requires c = omega (arith, c.power.ensures.1, (shape_ranges c.args.context c.args.factor c.requires.factor_value).3)
 
 -- a lane by its exponent, its group and its starts
 lane-by : (r e e' n n' g : ℕ) → r ≡ multiple_above (2 ^ e) ((n + 7) / 8) → e ≡ e' → 2 ^ e' ≡ g → n ≡ n' → r ≡ multiple_above g ((n' + 7) / 8)
@@ -54,9 +54,12 @@ overflow_sub-behind-2 c = omega (arith, right c, lane-is c, starts_is c)
 
 pub returns-then-len-context : goal.returns-then-len-context
 returns-then-len-context c =
-    let k = c in
-    let a = k.args in
-    record { lane = lane-is (goal.at.returns-then-len-context c).After-lane_of-n; padding = padded (goal.at.returns-then-len-context c).After-lane_of-n; steps = steps-none a.w a.len a.context a.factor c.if-len-context.true }
+    let a = c.args in
+    record {
+      lane = lane-is (goal.at.returns-then-len-context c).After-lane_of-n;
+      padding = padded (goal.at.returns-then-len-context c).After-lane_of-n;
+      steps = steps-none a.w a.len a.context a.factor c.if-len-context.true;
+    }
 
 pub overflow_sub-result : goal.overflow_sub-result
 overflow_sub-result c = omega (arith, right (goal.at.overflow_sub-result c).After-lane_of-n)
@@ -66,7 +69,10 @@ overflow_add-result c = omega (arith, right (goal.at.overflow_add-result c).Afte
 
 pub returns : goal.returns
 returns c =
-    let k = c in
-    let a = k.args in
+    let a = c.args in
     let e = steps-some a.w a.len a.context a.factor (right (goal.at.returns c).After-lane_of-n).low (omega arith) in
-    record { lane = lane-is (goal.at.returns c).After-lane_of-n; padding = padded (goal.at.returns c).After-lane_of-n; steps = ap (λ (n : ℕ). n + (a.context - 1)) (lane-is (goal.at.returns c).After-lane_of-n) ∙ e }
+    record {
+      lane = lane-is (goal.at.returns c).After-lane_of-n;
+      padding = padded (goal.at.returns c).After-lane_of-n;
+      steps = ap (λ (n : ℕ). n + (a.context - 1)) (lane-is (goal.at.returns c).After-lane_of-n) ∙ e;
+    }

@@ -25,13 +25,12 @@ module _ (s : Start) where
 
 pub returns-then-len-i : goal.returns-then-len-i
 returns-then-len-i c =
-    let s = c in holds_none s.requires.width s.args.bytes.now (Below-of 8 c.args.bytes.now (λ i. omega (arith, c.type_inv.bytes i))) s.args.offset s.args.len s.args.i c.if-len-i.true
+    holds_none c.requires.width c.args.bytes.now (Below-of 8 c.args.bytes.now (λ i. omega (arith, c.type_inv.bytes i))) c.args.offset c.args.len c.args.i c.if-len-i.true
 
 fits : (c : Then-left-turn) → c.args.w * (c.args.len - c.args.i) ≤ 64
 fits c =
-    let s = c in
-    let a = s.args in
-    le_trans (mul-le-mul_left a.w (subst (λ (x : ℕ). a.len - a.i ≤ x) s.requires.turn_value (le_of_lt c.if-left-turn.true))) (mul-div-le 64 a.w)
+    let a = c.args in
+    le_trans (mul-le-mul_left a.w (subst (λ (x : ℕ). a.len - a.i ≤ x) c.requires.turn_value (le_of_lt c.if-left-turn.true))) (mul-div-le 64 a.w)
 
 pub overflow_add-offset : goal.overflow_add-offset
 overflow_add-offset c = omega (arith, (bits (goal.at.overflow_add-offset c).Start).short)
@@ -47,9 +46,8 @@ bits_at-requires c = (fits c, omega (arith, (place (goal.at.bits_at-requires c).
 
 pub returns-then-left-turn : goal.returns-then-left-turn
 returns-then-left-turn c =
-    let s = c in
-    let a = s.args in
-    let h = holds_last s.requires.width a.bytes.now (Below-of 8 c.args.bytes.now (λ i. omega (arith, c.type_inv.bytes i))) a.offset a.len a.i (a.len - a.i) (omega arith) in
+    let a = c.args in
+    let h = holds_last c.requires.width a.bytes.now (Below-of 8 c.args.bytes.now (λ i. omega (arith, c.type_inv.bytes i))) a.offset a.len a.i (a.len - a.i) (omega arith) in
     subst (Holds a.w (chars a.w a.bytes.now a.offset a.len) a.i) (sym c.bits_at.ensures) h
 
 pub overflow_add-offset-2 : goal.overflow_add-offset-2
@@ -63,7 +61,6 @@ bits_at-requires-2 c = (le_refl 64, omega (arith, (place (goal.at.bits_at-requir
 
 pub returns : goal.returns
 returns c =
-    let s = c in
-    let a = s.args in
-    let h = holds_turn s.requires.width a.bytes.now (Below-of 8 c.args.bytes.now (λ i. omega (arith, c.type_inv.bytes i))) a.offset a.len a.i (omega (arith, s.requires.turn_value)) in
+    let a = c.args in
+    let h = holds_turn c.requires.width a.bytes.now (Below-of 8 c.args.bytes.now (λ i. omega (arith, c.type_inv.bytes i))) a.offset a.len a.i (omega (arith, c.requires.turn_value)) in
     subst (Holds a.w (chars a.w a.bytes.now a.offset a.len) a.i) (sym c.bits_at-2.ensures) h

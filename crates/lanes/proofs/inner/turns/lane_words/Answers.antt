@@ -13,14 +13,14 @@ loop-l-init c = (omega arith, refl, λ m g h. absurd (omega arith))
 
 pub overflow_mul-l : goal.overflow_mul-l
 overflow_mul-l c =
-    let s = c in omega (arith, (lane_place s.args.n s.args.i 0 c.loop-l.l s.requires.turn_value.1 s.requires.turn_value.2 (omega arith)).0)
+    omega (arith, (lane_place c.args.n c.args.i 0 c.loop-l.l c.requires.turn_value.1 c.requires.turn_value.2 (omega arith)).0)
 
 pub overflow_add-l : goal.overflow_add-l
 overflow_add-l c =
-    let s = c in omega (arith, s.requires.turn_value.2, (lane_place s.args.n s.args.i 0 c.loop-l.l s.requires.turn_value.1 s.requires.turn_value.2 (omega arith)).0)
+    omega (arith, c.requires.turn_value.2, (lane_place c.args.n c.args.i 0 c.loop-l.l c.requires.turn_value.1 c.requires.turn_value.2 (omega arith)).0)
 
 pub lane_word-requires : goal.lane_word-requires
-lane_word-requires c = let s = c in record { width = s.requires.width; len_value = s.requires.len_value; turn_value = s.requires.turn_value.0 }
+lane_word-requires c = record { width = c.requires.width; len_value = c.requires.len_value; turn_value = c.requires.turn_value.0 }
 
 pub offset_bounds-out-l : goal.offset_bounds-out-l
 offset_bounds-out-l c = omega arith

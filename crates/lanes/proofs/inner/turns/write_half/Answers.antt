@@ -8,7 +8,7 @@ pub loop-t-init : goal.loop-t-init
 loop-t-init c = (omega arith, made_none (omega arith))
 
 pub overflow_mul-w : goal.overflow_mul-w
-overflow_mul-w c = let s = c in omega (arith, turn_shift s.requires.width c.loop-t.t s.args.count 32 (omega arith) s.requires.count_bound.0)
+overflow_mul-w c = omega (arith, turn_shift c.requires.width c.loop-t.t c.args.count 32 (omega arith) c.requires.count_bound.0)
 
 pub overflow_mul-t : goal.overflow_mul-t
 overflow_mul-t c = omega arith
@@ -18,8 +18,10 @@ overflow_add-e c = omega arith
 
 pub write_step-requires : goal.write_step-requires
 write_step-requires c =
-    let s = c in
-    let l = c.loop-t in record { width = s.requires.width; s_bound = (omega (arith, width_pos s.requires.width, turn_shift s.requires.width l.t s.args.count 32 (omega arith) s.requires.count_bound.0), omega (arith, l.invariant.1.long)) }
+    let l = c.loop-t in record {
+      width = c.requires.width;
+      s_bound = (omega (arith, width_pos c.requires.width, turn_shift c.requires.width l.t c.args.count 32 (omega arith) c.requires.count_bound.0), omega (arith, l.invariant.1.long));
+    }
 
 pub overflow_add-t : goal.overflow_add-t
 overflow_add-t c = omega arith

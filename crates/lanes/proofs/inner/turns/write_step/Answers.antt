@@ -55,9 +55,8 @@ loop-l-smaller c = omega arith
 pub loop-l-preserved : goal.loop-l-preserved
 loop-l-preserved c =
     let l = c.loop-l in
-    let s = c in
-    let a = s.args in
-    let v = ap₂ (λ (m p : ℕ). get_or a.part m 0 / 2 ^ a.s % p) (sym (add-sub_cancel_left a.e l.l)) (one s.requires.width) in
+    let a = c.args in
+    let v = ap₂ (λ (m p : ℕ). get_or a.part m 0 / 2 ^ a.s % p) (sym (add-sub_cancel_left a.e l.l)) (one c.requires.width) in
     (omega arith, made-to (made_more l.invariant.1 (omega arith) (omega arith) v) (omega arith))
 
 pub shape_of-out : goal.shape_of-out

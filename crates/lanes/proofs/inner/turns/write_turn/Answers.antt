@@ -56,25 +56,33 @@ parts_at : (words part : List ℕ) (m n : ℕ) → ((l : ℕ) → l < 8 → get_
 parts_at words part m n is e l h = is l h ∙ ap (λ (x : ℕ). get_or words l 0 / x % 2 ^ 32) e
 
 pub write_half-requires : goal.write_half-requires
-write_half-requires c = let k = c in record { width = W (goal.at.write_half-requires c).After-smaller-first; count_bound = (fits (goal.at.write_half-requires c).After-smaller-first, omega (arith, few (goal.at.write_half-requires c).After-smaller-first, k.requires.count_bound.1)) }
+write_half-requires c = record {
+  width = W (goal.at.write_half-requires c).After-smaller-first;
+  count_bound = (fits (goal.at.write_half-requires c).After-smaller-first, omega (arith, few (goal.at.write_half-requires c).After-smaller-first, c.requires.count_bound.1));
+}
 
 pub write_half-requires-2 : goal.write_half-requires-2
 write_half-requires-2 c =
-    let h = c in
-    let k = h in record { width = W (goal.at.write_half-requires-2 c).After-smaller-first; count_bound = (rest (goal.at.write_half-requires-2 c).After-smaller-first, omega (arith, few (goal.at.write_half-requires-2 c).After-smaller-first, h.write_half.ensures.long, k.requires.count_bound.1)) }
+    record {
+      width = W (goal.at.write_half-requires-2 c).After-smaller-first;
+      count_bound = (
+        rest (goal.at.write_half-requires-2 c).After-smaller-first,
+        omega (arith, few (goal.at.write_half-requires-2 c).After-smaller-first, c.write_half.ensures.long, c.requires.count_bound.1),
+      );
+    }
 
 pub returns : goal.returns
 returns c =
-    let g = c in
-    let r = g in
-    let h = r in
-    let n = h in
-    let k = n in
-    let a = k.args in
-    let low = turned-part (W (goal.at.returns c).After-smaller-first) a.words n.halves.result 0 (first (goal.at.returns c).After-smaller-first) a.e 0 a.e (fits (goal.at.returns c).After-smaller-first) (sym (mul-zero (w (goal.at.returns c).After-smaller-first))) (omega arith) n.halves.ensures in
+    let a = c.args in
+    let low = turned-part (W (goal.at.returns c).After-smaller-first) a.words c.halves.result 0 (first (goal.at.returns c).After-smaller-first) a.e 0 a.e
+    (fits (goal.at.returns c).After-smaller-first) (sym (mul-zero (w (goal.at.returns c).After-smaller-first))) (omega arith) c.halves.ensures in
     made-to
-    (made-join (made_as h.write_half.ensures low) g.write_half-2.ensures (omega arith) (omega arith)
+    (made-join (made_as c.write_half.ensures low) c.write_half-2.ensures (omega arith) (omega arith)
     (λ q f l _.
-    turned-part (W (goal.at.returns c).After-smaller-first) a.words r.halves-2.result (first (goal.at.returns c).After-smaller-first) (count (goal.at.returns c).After-smaller-first - first (goal.at.returns c).After-smaller-first) a.e (w (goal.at.returns c).After-smaller-first * first (goal.at.returns c).After-smaller-first) (a.e + 8 * first (goal.at.returns c).After-smaller-first) (rest (goal.at.returns c).After-smaller-first) refl refl
-    (parts_at a.words r.halves-2.result _ (2 ^ (w (goal.at.returns c).After-smaller-first * first (goal.at.returns c).After-smaller-first)) r.halves-2.ensures (omega (arith, ap (λ (s : ℕ). 2 ^ s) (more (goal.at.returns c).After-smaller-first (omega arith))))) q f l))
+    turned-part (W (goal.at.returns c).After-smaller-first) a.words c.halves-2.result (first (goal.at.returns c).After-smaller-first)
+    (count (goal.at.returns c).After-smaller-first - first (goal.at.returns c).After-smaller-first) a.e
+    (w (goal.at.returns c).After-smaller-first * first (goal.at.returns c).After-smaller-first) (a.e + 8 * first (goal.at.returns c).After-smaller-first)
+    (rest (goal.at.returns c).After-smaller-first) refl refl
+    (parts_at a.words c.halves-2.result _ (2 ^ (w (goal.at.returns c).After-smaller-first * first (goal.at.returns c).After-smaller-first)) c.halves-2.ensures
+    (omega (arith, ap (λ (s : ℕ). 2 ^ s) (more (goal.at.returns c).After-smaller-first (omega arith))))) q f l))
     (omega (arith, few (goal.at.returns c).After-smaller-first))

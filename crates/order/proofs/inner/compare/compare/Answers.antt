@@ -32,8 +32,7 @@ returns-in-Refused c = answer_refused _ _ _ (pos 0, 0) (sym c.pair_outcome.ensur
 pub returns-in-Done : goal.returns-in-Done
 unfolding compared
 returns-in-Done c =
-    let k = c in
-    let a = k.args in
+    let a = c.args in
     answer_done _ _ _ (pos 0, 0) (done (goal.at.returns-in-Done c).After-count-n)
     (ap₂ (λ (o : Order) (n : ℕ). (order_number o, n)) c.compare_views-c.ensures.order (c.new.ensures ∙ c.compare_views-c.ensures.common)
     ∙ counted (goal.at.returns-in-Done c).After-count-n (λ ao al bo bl. (order_number (pair_order a.w a.a.now ao al a.b.now bo bl), common (chars a.w a.a.now ao al) (chars a.w a.b.now bo bl))))

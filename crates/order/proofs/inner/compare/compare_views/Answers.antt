@@ -18,14 +18,12 @@ use Rattle.order.proofs.inner.compare.compare_views.Goals as goal
 two : (c : After-over_width-turn)
     → let a = c.args in Two a.w a.a.now a.ao a.al a.b.now a.bo a.bl c.smaller-n.result
 two c =
-    let k = c in
-    let s = k in
-    let a = s.args in
+    let a = c.args in
     record {
-      width = s.requires.width;
-      bytes = (Below-of 8 a.a.now (λ i. omega (arith, k.shared_slice_known-1.given i)), Below-of 8 a.b.now (λ i. omega (arith, k.shared_slice_known-2-1.given i)));
-      bits = pair_bits s.requires.width (length a.a.now) a.ao a.al (length a.b.now) a.bo a.bl s.requires.bl_value;
-      least = k.smaller-n.ensures;
+      width = c.requires.width;
+      bytes = (Below-of 8 a.a.now (λ i. omega (arith, c.shared_slice_known-1.given i)), Below-of 8 a.b.now (λ i. omega (arith, c.shared_slice_known-2-1.given i)));
+      bits = pair_bits c.requires.width (length a.a.now) a.ao a.al (length a.b.now) a.bo a.bl c.requires.bl_value;
+      least = c.smaller-n.ensures;
     }
 
 pub overflow_mul-p : goal.overflow_mul-p
@@ -65,7 +63,12 @@ module _ (c : After-over_width-k) where
   there = c.over_width-k.result
 
   few : there < 56
-  few = omega (arith, c.over_width-k.ensures, low (goal.at.After-over_width-k c).Then-z-ne0, div-le_self (count_trailing_zeros 64 (z (goal.at.After-over_width-k c).Then-z-ne0)) (width (goal.at.After-over_width-k c).Then-z-ne0))
+  few = omega (
+    arith,
+    c.over_width-k.ensures,
+    low (goal.at.After-over_width-k c).Then-z-ne0,
+    div-le_self (count_trailing_zeros 64 (z (goal.at.After-over_width-k c).Then-z-ne0)) (width (goal.at.After-over_width-k c).Then-z-ne0),
+  )
 
   moved : width (goal.at.After-over_width-k c).Then-z-ne0 * there < 56
   moved = subst (λ (k : ℕ). width (goal.at.After-over_width-k c).Then-z-ne0 * k < 56) (sym c.over_width-k.ensures) (shift (goal.at.After-over_width-k c).Then-z-ne0)
@@ -96,19 +99,18 @@ low_bits-requires-then-z-ne0 c = omega (arith, (two (goal.at.low_bits-requires-t
 
 pub returns-then-z-ne0 : goal.returns-then-z-ne0
 returns-then-z-ne0 c =
-    let k = c in
-    let t = k in
-    let a = t.args in
-    let l = t.loop-i in
-    let x = t.peek-x in
-    let y = t.peek-y in
-    let r = k.over_width-k.ensures in
+    let a = c.args in
+    let l = c.loop-i in
+    let x = c.peek-x in
+    let y = c.peek-y in
+    let r = c.over_width-k.ensures in
     let e =
     sym (min-eq_left (le_of_lt c.if-n-common.false))
-    ∙ ap (λ (j : ℕ). min (l.i + j) t.smaller-n.result) r
-    ∙ passed_found (two (goal.at.returns-then-z-ne0 c).After-over_width-turn) l.invariant x.result y.result x.ensures y.ensures t.if-z-ne0.true in
-    let both = passed_chars (two (goal.at.returns-then-z-ne0 c).After-over_width-turn) l.invariant x.result y.result x.ensures y.ensures t.if-z-ne0.true in
-    let at-k : (v : ℕ) → v / 2 ^ (a.w * there (goal.at.returns-then-z-ne0 c).After-over_width-k) % 2 ^ a.w ≡ v / 2 ^ (a.w * (count_trailing_zeros 64 (z (goal.at.returns-then-z-ne0 c).Then-z-ne0) / a.w)) % 2 ^ a.w = λ v. ap (λ (j : ℕ). v / 2 ^ (a.w * j) % 2 ^ a.w) r in
+    ∙ ap (λ (j : ℕ). min (l.i + j) c.smaller-n.result) r
+    ∙ passed_found (two (goal.at.returns-then-z-ne0 c).After-over_width-turn) l.invariant x.result y.result x.ensures y.ensures c.if-z-ne0.true in
+    let both = passed_chars (two (goal.at.returns-then-z-ne0 c).After-over_width-turn) l.invariant x.result y.result x.ensures y.ensures c.if-z-ne0.true in
+    let at-k : (v : ℕ) → v / 2 ^ (a.w * there (goal.at.returns-then-z-ne0 c).After-over_width-k) % 2 ^ a.w ≡ v / 2
+    ^ (a.w * (count_trailing_zeros 64 (z (goal.at.returns-then-z-ne0 c).Then-z-ne0) / a.w)) % 2 ^ a.w = λ v. ap (λ (j : ℕ). v / 2 ^ (a.w * j) % 2 ^ a.w) r in
     let decided = ap₂ (λ (m n : ℕ). compare (m ∷ []) (n ∷ [])) (c.low_bits.ensures ∙ at-k x.result ∙ both.0) (c.low_bits-then-z-ne0.ensures ∙ at-k y.result ∙ both.1) in
     let few = (two (goal.at.returns-then-z-ne0 c).After-over_width-turn).least in
     let behind =
@@ -117,31 +119,25 @@ returns-then-z-ne0 c =
 
 pub overflow_add-p : goal.overflow_add-p
 overflow_add-p c =
-    let l = c in
-    record { fits = omega (arith, (turn_left (two (goal.at.overflow_add-p c).After-over_width-turn) l.loop-i.invariant l.loop-i-test.true).1) }
+    record { fits = omega (arith, (turn_left (two (goal.at.overflow_add-p c).After-over_width-turn) c.loop-i.invariant c.loop-i-test.true).1) }
 
 pub overflow_add-q : goal.overflow_add-q
 overflow_add-q c =
-    let l = c in
-    record { fits = omega (arith, (turn_right (two (goal.at.overflow_add-q c).After-over_width-turn) l.loop-i.invariant l.loop-i-test.true).1) }
+    record { fits = omega (arith, (turn_right (two (goal.at.overflow_add-q c).After-over_width-turn) c.loop-i.invariant c.loop-i-test.true).1) }
 
 pub overflow_add-i : goal.overflow_add-i
 overflow_add-i c =
-    let s = c in
-    record { fits = omega (arith, two_few (two (goal.at.overflow_add-i c).After-over_width-turn), s.over_width-turn.ensures, div-le_self 56 s.args.w) }
+    record { fits = omega (arith, two_few (two (goal.at.overflow_add-i c).After-over_width-turn), c.over_width-turn.ensures, div-le_self 56 c.args.w) }
 
 pub loop-i-smaller : goal.loop-i-smaller
 loop-i-smaller c =
-    let v = c in
-    omega (arith, v.over_width-turn.ensures, turn_pos (two (goal.at.loop-i-smaller c).After-over_width-turn).width)
+    omega (arith, c.over_width-turn.ensures, turn_pos (two (goal.at.loop-i-smaller c).After-over_width-turn).width)
 
 pub loop-i-preserved : goal.loop-i-preserved
 loop-i-preserved c =
-    let k = c in
-    let l = k in
-    let a = l.args in
-    subst (λ (n : ℕ). Passed a.w a.a.now a.ao a.b.now a.bo (l.loop-i.i + n) (l.loop-i.p + 56) (l.loop-i.q + 56)) (sym l.over_width-turn.ensures)
-    (passed_turn (two (goal.at.loop-i-preserved c).After-over_width-turn) l.loop-i.invariant k.peek-x.result k.peek-y.result k.peek-x.ensures k.peek-y.ensures c.if-z-ne0.false)
+    let a = c.args in
+    subst (λ (n : ℕ). Passed a.w a.a.now a.ao a.b.now a.bo (c.loop-i.i + n) (c.loop-i.p + 56) (c.loop-i.q + 56)) (sym c.over_width-turn.ensures)
+    (passed_turn (two (goal.at.loop-i-preserved c).After-over_width-turn) c.loop-i.invariant c.peek-x.result c.peek-y.result c.peek-x.ensures c.peek-y.ensures c.if-z-ne0.false)
 
 -- behind the loop: all that both have is common, whether it was passed or what differs lies beyond
 ended : (c : Left-loop-i)
@@ -161,6 +157,6 @@ ended c =
 
 pub returns : goal.returns
 returns c =
-    let v = c in
-    let a = v.args in
-    let ends = order_ends a.w a.a.now a.ao a.al a.b.now a.bo a.bl _ (ended (goal.at.returns c).Left-loop-i) (λ h l. omega (arith, (two (goal.at.returns c).After-over_width-turn).least, le-min h l)) in record { order = c.order_of-2.ensures ∙ sym ends; common = ended (goal.at.returns c).Left-loop-i }
+    let a = c.args in
+    let ends = order_ends a.w a.a.now a.ao a.al a.b.now a.bo a.bl _ (ended (goal.at.returns c).Left-loop-i)
+    (λ h l. omega (arith, (two (goal.at.returns c).After-over_width-turn).least, le-min h l)) in record { order = c.order_of-2.ensures ∙ sym ends; common = ended (goal.at.returns c).Left-loop-i }

@@ -83,26 +83,23 @@ peek-requires c = omega (arith, (place (goal.at.peek-requires c).Else-tl-pl (at 
 
 pub low_bits-requires : goal.low_bits-requires
 low_bits-requires c =
-    let k = c in
     let a = c.args in
-    omega (arith, k.smaller-bits.ensures, min-le_right (a.w * a.pl) 56)
+    omega (arith, c.smaller-bits.ensures, min-le_right (a.w * a.pl) 56)
 
 pub overflow_add-at : goal.overflow_add-at
 overflow_add-at c = record { fits = omega (arith, sum (goal.at.overflow_add-at c).In-places) }
 
 pub places-preserved-then-low_bits-ne0 : goal.places-preserved-then-low_bits-ne0
 places-preserved-then-low_bits-ne0 c =
-    let i = c in
-    let l = i.places in
-    let h = i in
-    let v = i in
-    let a = v.args in
-    let m = h.smaller-bits.ensures in
+    let l = c.places in
+    let a = c.args in
+    let m = c.smaller-bits.ensures in
     let other : Stands a.w a.t.now a.to a.tl a.p.now a.po a.pl (at (goal.at.places-preserved-then-low_bits-ne0 c).In-places) → ⊥ =
     λ st.
     c.if-low_bits-ne0.true
     (c.low_bits.ensures
-    ∙ stands-bits a.w a.t.now a.to a.tl a.p.now a.po a.pl v.requires.width (text (goal.at.places-preserved-then-low_bits-ne0 c).Else-tl-pl) (pattern (goal.at.places-preserved-then-low_bits-ne0 c).Else-tl-pl) (at (goal.at.places-preserved-then-low_bits-ne0 c).In-places) _ _ _ c.peek.ensures h.peek-head.ensures
+    ∙ stands-bits a.w a.t.now a.to a.tl a.p.now a.po a.pl c.requires.width (text (goal.at.places-preserved-then-low_bits-ne0 c).Else-tl-pl)
+    (pattern (goal.at.places-preserved-then-low_bits-ne0 c).Else-tl-pl) (at (goal.at.places-preserved-then-low_bits-ne0 c).In-places) _ _ _ c.peek.ensures c.peek-head.ensures
     (omega (arith, m, min-le_left (a.w * a.pl) 56)) (omega (arith, m, min-le_right (a.w * a.pl) 56)) st) in
     (search rules, below_more _ _ l.invariant.1 other, l.invariant.2)
 
@@ -110,31 +107,28 @@ pub overflow_add-to-in-places : goal.overflow_add-to-in-places
 overflow_add-to-in-places c = record { fits = omega (arith, sum (goal.at.overflow_add-to-in-places c).In-places) }
 
 pub compare_views-c-requires : goal.compare_views-c-requires
-compare_views-c-requires c = let i = c in record { width = i.requires.width; bl_value = cut (goal.at.compare_views-c-requires c).In-places }
+compare_views-c-requires c = record { width = c.requires.width; bl_value = cut (goal.at.compare_views-c-requires c).In-places }
 
 pub overflow_add-at-then-c-pl : goal.overflow_add-at-then-c-pl
 overflow_add-at-then-c-pl c = record { fits = omega (arith, sum (goal.at.overflow_add-at-then-c-pl c).In-places) }
 
 pub places-preserved : goal.places-preserved
 places-preserved c =
-    let i = c in
-    let l = i.places in
-    let a = i.args in
+    let l = c.places in
+    let a = c.args in
     let short = subst (λ (n : ℕ). n < a.pl) c.compare_views-c.ensures.common c.if-c-pl.true in
     (search rules, below_more _ _ l.invariant.1 (stands-short a.w a.t.now a.to a.tl a.p.now a.po a.pl l.at short), l.invariant.2)
 
 pub returns-after-places : goal.returns-after-places
 returns-after-places c =
-    let p = c in
-    let a = p.args in
-    ap found_says p.places.invariant.2
-    ∙ found_none a.w a.t.now a.to a.tl a.p.now a.po a.pl (λ j st. p.places.invariant.1 j (omega (arith, st.0)) st)
+    let a = c.args in
+    ap found_says c.places.invariant.2
+    ∙ found_none a.w a.t.now a.to a.tl a.p.now a.po a.pl (λ j st. c.places.invariant.1 j (omega (arith, st.0)) st)
 
 pub returns-else-c-pl : goal.returns-else-c-pl
 returns-else-c-pl c =
-    let i = c in
-    let l = i.places in
-    let a = i.args in
+    let l = c.places in
+    let a = c.args in
     let whole = subst (λ (n : ℕ). a.pl ≤ n) c.compare_views-c.ensures.common c.if-c-pl.false in
     ap (λ (k : ℕ). answer Done (true, k) (false, 0)) c.new.ensures
     ∙ found_at a.w a.t.now a.to a.tl a.p.now a.po a.pl l.at

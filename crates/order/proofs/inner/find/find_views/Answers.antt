@@ -33,4 +33,5 @@ unfolding found
 returns-in-Done c =
     let a = c.args in
     c.find_at.ensures
-    ∙ answer_done _ _ _ (false, 0) (done (goal.at.returns-in-Done c).After-count-in-Done-3) (counted (goal.at.returns-in-Done c).After-count-in-Done-3 (λ to tl po pl. placed (place_of (chars a.w a.p.now po pl) (chars a.w a.t.now to tl))))
+    ∙ answer_done _ _ _ (false, 0) (done (goal.at.returns-in-Done c).After-count-in-Done-3)
+    (counted (goal.at.returns-in-Done c).After-count-in-Done-3 (λ to tl po pl. placed (place_of (chars a.w a.p.now po pl) (chars a.w a.t.now to tl))))

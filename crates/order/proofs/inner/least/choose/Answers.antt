@@ -6,15 +6,13 @@ use Rattle.order.proofs.inner.least.choose.Goals as goal
 
 pub returns-in-Refused : goal.returns-in-Refused
 returns-in-Refused c =
-    let p = c in
-    let a = p.args in
+    let a = c.args in
     ap choice_of (sym c.in-Refused.is)
-    ∙ choice-compared a.w a.a.now a.ao.0 a.al.0 a.b.now a.bo.0 a.bl.0 p.compare.result p.compare.ensures
+    ∙ choice-compared a.w a.a.now a.ao.0 a.al.0 a.b.now a.bo.0 a.bl.0 c.compare.result c.compare.ensures
 
 pub returns-in-Is : goal.returns-in-Is
 returns-in-Is c =
-    let p = c in
-    let a = p.args in
+    let a = c.args in
     ap (choice_by Done) c.comes_second.ensures
     ∙ ap choice_of (sym c.in-Is.is)
-    ∙ choice-compared a.w a.a.now a.ao.0 a.al.0 a.b.now a.bo.0 a.bl.0 p.compare.result p.compare.ensures
+    ∙ choice-compared a.w a.a.now a.ao.0 a.al.0 a.b.now a.bo.0 a.bl.0 c.compare.result c.compare.ensures

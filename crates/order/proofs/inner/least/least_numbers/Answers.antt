@@ -21,15 +21,13 @@ said c =
 
 pub returns-in-Refused : goal.returns-in-Refused
 returns-in-Refused c =
-    let n = c in
-    let a = n.args in
-    let which = n.choose-which.result in
-    numbers_refused n.chosen_numbers-numbers.result which.outcome (pick which.second (a.bo.0 % per a.w, a.bl.0) (a.ao.0 % per a.w, a.al.0)) _
-    n.chosen_numbers-numbers.ensures c.in-Refused.is
+    let a = c.args in
+    let which = c.choose-which.result in
+    numbers_refused c.chosen_numbers-numbers.result which.outcome (pick which.second (a.bo.0 % per a.w, a.bl.0) (a.ao.0 % per a.w, a.al.0)) _
+    c.chosen_numbers-numbers.ensures c.in-Refused.is
     ∙ said (goal.at.returns-in-Refused c).After-chosen_numbers-numbers
 
 pub returns-in-Done : goal.returns-in-Done
 returns-in-Done c =
-    let n = c in
-    let r = n.chosen_numbers-numbers.result in
+    let r = c.chosen_numbers-numbers.result in
     ap (λ (q : Outcome). record { no = number_of q; values = (r.offset.0, r.len.0) }) (sym c.in-Done.is) ∙ said (goal.at.returns-in-Done c).After-chosen_numbers-numbers

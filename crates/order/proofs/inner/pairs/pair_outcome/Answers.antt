@@ -30,7 +30,6 @@ bad_view-requires c = record { width = search rules; n_bound = ltb-false (2 ^ 28
 
 pub returns-then-bad_view : goal.returns-then-bad_view
 returns-then-bad_view c =
-    let b = c in
     simp (short_a (goal.at.returns-then-bad_view c).Else-too_long, short_b (goal.at.returns-then-bad_view c).Else-too_long-2, sym c.bad_view.ensures ∙ c.if-bad_view.true)
 
 pub bad_view-requires-2 : goal.bad_view-requires-2
@@ -38,12 +37,13 @@ bad_view-requires-2 c = record { width = search rules; n_bound = ltb-false (2 ^ 
 
 pub returns-then-bad_view-2 : goal.returns-then-bad_view-2
 returns-then-bad_view-2 c =
-    let h = c in
-    let b = h in
-    simp (short_a (goal.at.returns-then-bad_view-2 c).Else-too_long, short_b (goal.at.returns-then-bad_view-2 c).Else-too_long-2, held_a (goal.at.returns-then-bad_view-2 c).Else-bad_view, sym c.bad_view-2.ensures ∙ c.if-bad_view-2.true)
+    simp (
+      short_a (goal.at.returns-then-bad_view-2 c).Else-too_long,
+      short_b (goal.at.returns-then-bad_view-2 c).Else-too_long-2,
+      held_a (goal.at.returns-then-bad_view-2 c).Else-bad_view,
+      sym c.bad_view-2.ensures ∙ c.if-bad_view-2.true,
+    )
 
 pub returns : goal.returns
 returns c =
-    let h = c in
-    let b = h in
     simp (short_a (goal.at.returns c).Else-too_long, short_b (goal.at.returns c).Else-too_long-2, held_a (goal.at.returns c).Else-bad_view, sym c.bad_view-2.ensures ∙ c.if-bad_view-2.false)

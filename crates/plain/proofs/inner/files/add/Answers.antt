@@ -9,24 +9,6 @@ use Rattle.twowrite.specs.declared.answers.Writing.{Writing}
 use Rattle.twowrite.proofs.StepLaws.{add-stop}
 use Rattle.plain.proofs.inner.files.add.Goals as goal
 
-pub new-requires : goal.new-requires
-new-requires c = tt
-
-pub new-requires-2 : goal.new-requires-2
-new-requires-2 c = tt
-
-pub new-requires-3 : goal.new-requires-3
-new-requires-3 c = tt
-
-pub new-requires-4 : goal.new-requires-4
-new-requires-4 c = tt
-
-pub add-requires : goal.add-requires
-add-requires c = tt
-
-pub stepped-requires : goal.stepped-requires
-stepped-requires c = tt
-
 pub returns-clause-answer : goal.returns-clause-answer
 returns-clause-answer c =
     let a = c.args in

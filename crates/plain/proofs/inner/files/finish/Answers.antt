@@ -2,11 +2,5 @@
 use mathlib.Core.Path.{◌∙◌}
 use Rattle.plain.proofs.inner.files.finish.Goals as goal
 
-pub finish-requires : goal.finish-requires
-finish-requires c = tt
-
-pub sized-requires : goal.sized-requires
-sized-requires c = tt
-
 pub returns : goal.returns
 returns c = c.sized.ensures ∙ c.finish.ensures

@@ -2,11 +2,5 @@
 use mathlib.Core.Path.{◌∙◌}
 use Rattle.plain.proofs.inner.files.first.Goals as goal
 
-pub first-requires : goal.first-requires
-first-requires c = tt
-
-pub cursor-requires : goal.cursor-requires
-cursor-requires c = tt
-
 pub returns : goal.returns
 returns c = c.cursor.ensures ∙ c.first.ensures

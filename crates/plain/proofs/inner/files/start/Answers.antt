@@ -2,11 +2,5 @@
 use mathlib.Core.Path.{◌∙◌}
 use Rattle.plain.proofs.inner.files.start.Goals as goal
 
-pub start-started-requires : goal.start-started-requires
-start-started-requires c = tt
-
-pub stepped-requires : goal.stepped-requires
-stepped-requires c = tt
-
 pub returns : goal.returns
 returns c = record { answer = c.stepped.ensures ∙ c.start-started.ensures.answer; bytes = c.start-started.ensures.bytes }

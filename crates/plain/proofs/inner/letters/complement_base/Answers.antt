@@ -2,12 +2,6 @@
 use mathlib.Core.Path.{◌∙◌}
 use Rattle.plain.proofs.inner.letters.complement_base.Goals as goal
 
-pub complement_base-requires : goal.complement_base-requires
-complement_base-requires c = tt
-
-pub symbol-requires : goal.symbol-requires
-symbol-requires c = tt
-
 pub returns : goal.returns
 returns c =
     let answer = c.complement_base.ensures in

@@ -2,12 +2,6 @@
 use mathlib.Core.Path.{◌∙◌}
 use Rattle.plain.proofs.inner.letters.unpack_base.Goals as goal
 
-pub unpack_base-requires : goal.unpack_base-requires
-unpack_base-requires c = tt
-
-pub symbol-requires : goal.symbol-requires
-symbol-requires c = tt
-
 pub returns : goal.returns
 returns c =
     let answer = c.unpack_base.ensures in

@@ -2,12 +2,6 @@
 use mathlib.Core.Path.{◌∙◌}
 use Rattle.plain.proofs.inner.words.pack_kmer_lossy.Goals as goal
 
-pub pack_kmer_lossy-requires : goal.pack_kmer_lossy-requires
-pack_kmer_lossy-requires c = tt
-
-pub word-requires : goal.word-requires
-word-requires c = tt
-
 pub returns : goal.returns
 returns c =
     let answer = c.pack_kmer_lossy.ensures in

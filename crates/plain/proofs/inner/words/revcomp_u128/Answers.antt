@@ -2,15 +2,6 @@
 use mathlib.Core.Path.{◌∙◌}
 use Rattle.plain.proofs.inner.words.revcomp_u128.Goals as goal
 
-pub new-requires : goal.new-requires
-new-requires c = tt
-
-pub revcomp_u128-requires : goal.revcomp_u128-requires
-revcomp_u128-requires c = tt
-
-pub word128-requires : goal.word128-requires
-word128-requires c = tt
-
 pub returns : goal.returns
 returns c =
     let new = c.new.ensures in

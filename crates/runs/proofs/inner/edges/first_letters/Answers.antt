@@ -11,10 +11,10 @@ pub whole_byte-requires : goal.whole_byte-requires
 whole_byte-requires c = record { width = c.requires.width; w_bound = (c.requires.w_bound.0, omega (arith, c.requires.w_bound.1)) }
 
 pub overflow_mul-result : goal.overflow_mul-result
-overflow_mul-result c = let s = c in omega (arith, bits_fit s.requires.width s.args.k s.requires.w_bound.2)
+overflow_mul-result c = omega (arith, bits_fit c.requires.width c.args.k c.requires.w_bound.2)
 
 pub overflow_shl-result : goal.overflow_shl-result
-overflow_shl-result c = let s = c in omega (arith, bits_fit s.requires.width s.args.k s.requires.w_bound.2)
+overflow_shl-result c = omega (arith, bits_fit c.requires.width c.args.k c.requires.w_bound.2)
 
 pub returns : goal.returns
 returns c =

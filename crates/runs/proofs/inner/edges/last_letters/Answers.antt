@@ -35,7 +35,6 @@ overflow_shr-result c = omega (arith, shift (goal.at.overflow_shr-result c).Afte
 
 pub returns : goal.returns
 returns c =
-    let k = c in
-    let a = k.args in
+    let a = c.args in
     let e = ap (λ (p : ℕ). letters_word a.w (per a.w) a.letters.now (length a.letters.now - p)) (count_is (goal.at.returns c).After-count-c) in
     ap₂ (λ (x p : ℕ). x / 2 ^ (a.w * (p - a.n)) % 2 ^ 8) (c.whole_byte.ensures ∙ e) (count_is (goal.at.returns c).After-count-c)

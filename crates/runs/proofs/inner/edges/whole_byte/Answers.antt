@@ -24,7 +24,7 @@ pub bases4-requires : goal.bases4-requires
 bases4-requires c = room (goal.at.bases4-requires c).Start c.if-w-eq2.true
 
 pub returns-then-w-eq2 : goal.returns-then-w-eq2
-returns-then-w-eq2 c = let t = c in c.wide.ensures ∙ c.bases4.ensures ∙ byte (goal.at.returns-then-w-eq2 c).Start t.if-w-eq2.true
+returns-then-w-eq2 c = c.wide.ensures ∙ c.bases4.ensures ∙ byte (goal.at.returns-then-w-eq2 c).Start c.if-w-eq2.true
 
 pub flags_of-requires : goal.flags_of-requires
 flags_of-requires c = (omega arith, room (goal.at.flags_of-requires c).Start (flags_width c))

@@ -37,17 +37,15 @@ loop-j-smaller c = omega arith
 
 pub loop-j-preserved : goal.loop-j-preserved
 loop-j-preserved c =
-    let t = c in
-    let o = t in
-    let a = o.args in
-    let l = o.loop-j in
-    let x : t.load64.result ≡ word 8 a.view.now / 2 ^ (8 * (a.lead + (l.j - a.from))) % 2 ^ 64 =
-    t.load64.ensures ∙ ap (λ (i : ℕ). word 8 a.view.now / 2 ^ (8 * i) % 2 ^ 64) l.invariant.2 in (
+    let a = c.args in
+    let l = c.loop-j in
+    let x : c.load64.result ≡ word 8 a.view.now / 2 ^ (8 * (a.lead + (l.j - a.from))) % 2 ^ 64 =
+    c.load64.ensures ∙ ap (λ (i : ℕ). word 8 a.view.now / 2 ^ (8 * i) % 2 ^ 64) l.invariant.2 in (
       omega arith,
       omega arith,
       omega arith,
-      subst (Made (over a.view.now a.lead a.from) a.from (l.j + 8) a.buffer.now) (sym t.store64.ensures)
-          (made_word a.view.now (view_bytes (goal.at.loop-j-preserved c).At-loop-j) a.from a.lead l.j l.j t.load64.result l.invariant.3 (omega arith) (omega arith) (omega arith) (omega arith) x),
+      subst (Made (over a.view.now a.lead a.from) a.from (l.j + 8) a.buffer.now) (sym c.store64.ensures)
+          (made_word a.view.now (view_bytes (goal.at.loop-j-preserved c).At-loop-j) a.from a.lead l.j l.j c.load64.result l.invariant.3 (omega arith) (omega arith) (omega arith) (omega arith) x),
     )
 
 pub overflow_sub-to-2 : goal.overflow_sub-to-2

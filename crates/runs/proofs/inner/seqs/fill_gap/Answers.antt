@@ -23,19 +23,26 @@ module _ (c : After-count-b) where
 
 pub join_above-requires : goal.join_above-requires
 join_above-requires c =
-    let b = c in
-    let W = b.requires.width in
-    let len = b.args.len in
-    let some = b.if-k-gt0.true in record { width = W; b_in_bounds = (omega (arith, b_is (goal.at.join_above-requires c).After-count-b, b.requires.len_in_bounds, up-part W len (omega (arith, k_is (goal.at.join_above-requires c).After-count-k))), omega (arith, k_is (goal.at.join_above-requires c).After-count-k, mod-lt len (per_pos W))) }
+    let W = c.requires.width in
+    let len = c.args.len in
+    let some = c.if-k-gt0.true in record {
+      width = W;
+      b_in_bounds = (
+        omega (
+          arith,
+          b_is (goal.at.join_above-requires c).After-count-b,
+          c.requires.len_in_bounds,
+          up-part W len (omega (arith, k_is (goal.at.join_above-requires c).After-count-k)),
+        ),
+        omega (arith, k_is (goal.at.join_above-requires c).After-count-k, mod-lt len (per_pos W)),
+      );
+    }
 
 pub returns-then-k-gt0 : goal.returns-then-k-gt0
 returns-then-k-gt0 c =
-    let j = c in
-    let b = j in
-    made-gap b.requires.width b.args.len (k_is (goal.at.returns-then-k-gt0 c).After-count-k) j.gap_byte.ensures (b_is (goal.at.returns-then-k-gt0 c).After-count-b) b.if-k-gt0.true
-    (λ i. (c.slice_known-then-k-gt0-1.given i).fits) j.join_above.ensures
+    made-gap c.requires.width c.args.len (k_is (goal.at.returns-then-k-gt0 c).After-count-k) c.gap_byte.ensures (b_is (goal.at.returns-then-k-gt0 c).After-count-b) c.if-k-gt0.true
+    (λ i. (c.slice_known-then-k-gt0-1.given i).fits) c.join_above.ensures
 
 pub returns-else-k-gt0 : goal.returns-else-k-gt0
 returns-else-k-gt0 c =
-    let k = c in
-    made_none (le_of_eq (up-full k.requires.width k.args.len (omega (arith, k_is (goal.at.returns-else-k-gt0 c).After-count-k))))
+    made_none (le_of_eq (up-full c.requires.width c.args.len (omega (arith, k_is (goal.at.returns-else-k-gt0 c).After-count-k))))

@@ -53,39 +53,56 @@ module _ (c : After-count-last) where
 
 -- the gap's run
 module _ (c : After-fill_gap) where
-  gap_run : Made (anew (w (goal.at.After-fill_gap c).After-count-last) c.args.buffer.now (p (goal.at.After-fill_gap c).After-count-last).len (placed_chars (w (goal.at.After-fill_gap c).After-count-last) (p (goal.at.After-fill_gap c).After-count-last) c.args.view.now) (placed_stop (w (goal.at.After-fill_gap c).After-count-last) (p (goal.at.After-fill_gap c).After-count-last))) ((p (goal.at.After-fill_gap c).After-count-last).len / per (w (goal.at.After-fill_gap c).After-count-last)) c.count-first.result
+  gap_run : Made (anew (w (goal.at.After-fill_gap c).After-count-last) c.args.buffer.now (p (goal.at.After-fill_gap c).After-count-last).len
+      (placed_chars (w (goal.at.After-fill_gap c).After-count-last) (p (goal.at.After-fill_gap c).After-count-last) c.args.view.now)
+      (placed_stop (w (goal.at.After-fill_gap c).After-count-last) (p (goal.at.After-fill_gap c).After-count-last)))
+      ((p (goal.at.After-fill_gap c).After-count-last).len / per (w (goal.at.After-fill_gap c).After-count-last)) c.count-first.result
       c.args.buffer.now c.fill_gap.new.buffer
   gap_run =
       let q = first_is (goal.at.After-fill_gap c).After-count-last in
-      made_as (made-to c.fill_gap.ensures (sym q)) (λ j a b. gap_fresh (W (goal.at.After-fill_gap c).After-count-last) (p (goal.at.After-fill_gap c).After-count-last).len c.args.view.now (p (goal.at.After-fill_gap c).After-count-last).offset (p (goal.at.After-fill_gap c).After-count-last).count _ _ _ (placed (goal.at.After-fill_gap c).After-count-last).starts q (last_is (goal.at.After-fill_gap c).After-count-last) _ j (omega arith))
+      made_as (made-to c.fill_gap.ensures (sym q))
+      (λ j a b. gap_fresh (W (goal.at.After-fill_gap c).After-count-last) (p (goal.at.After-fill_gap c).After-count-last).len c.args.view.now
+      (p (goal.at.After-fill_gap c).After-count-last).offset (p (goal.at.After-fill_gap c).After-count-last).count _ _ _
+      (placed (goal.at.After-fill_gap c).After-count-last).starts q (last_is (goal.at.After-fill_gap c).After-count-last) _ j (omega arith))
 
 pub overflow_add-p : goal.overflow_add-p
 overflow_add-p c =
-    let s = c in
-    let a = s.args in
-    omega (arith, room_chars s.requires.width (a.p.start + a.p.count) (length a.buffer.now) s.requires.buffer_len_bound.1 s.requires.buffer_len_bound.0)
+    let a = c.args in
+    omega (arith, room_chars c.requires.width (a.p.start + a.p.count) (length a.buffer.now) c.requires.buffer_len_bound.1 c.requires.buffer_len_bound.0)
 
 pub fill_gap-requires : goal.fill_gap-requires
-fill_gap-requires c = let k = c in record { width = W (goal.at.fill_gap-requires c).After-count-last; len_in_bounds = omega (arith, ordered (goal.at.fill_gap-requires c).After-count-last, room (goal.at.fill_gap-requires c).After-count-last) }
+fill_gap-requires c = record {
+  width = W (goal.at.fill_gap-requires c).After-count-last;
+  len_in_bounds = omega (arith, ordered (goal.at.fill_gap-requires c).After-count-last, room (goal.at.fill_gap-requires c).After-count-last);
+}
 
 pub fill_view-requires : goal.fill_view-requires
 fill_view-requires c =
-    let g = c in
-    let k = g in
-    let e = g.fill_gap.ensures.long in record { width = W (goal.at.fill_view-requires c).After-count-last; placed = placed (goal.at.fill_view-requires c).After-count-last; first_value = (first_is (goal.at.fill_view-requires c).After-count-last, last_is (goal.at.fill_view-requires c).After-count-last, c.if-first-last.true); buffer_len_bound = (omega (arith, small (goal.at.fill_view-requires c).After-count-last), omega (arith, last_is (goal.at.fill_view-requires c).After-count-last, room (goal.at.fill_view-requires c).After-count-last)) }
+    let e = c.fill_gap.ensures.long in record {
+      width = W (goal.at.fill_view-requires c).After-count-last;
+      placed = placed (goal.at.fill_view-requires c).After-count-last;
+      first_value = (first_is (goal.at.fill_view-requires c).After-count-last, last_is (goal.at.fill_view-requires c).After-count-last, c.if-first-last.true);
+      buffer_len_bound = (
+        omega (arith, small (goal.at.fill_view-requires c).After-count-last),
+        omega (arith, last_is (goal.at.fill_view-requires c).After-count-last, room (goal.at.fill_view-requires c).After-count-last),
+      );
+    }
 
 pub returns-then-first-last : goal.returns-then-first-last
 returns-then-first-last c =
-    let v = c in
-    let t = v in
-    let g = t in
-    let k = g in
-    made-three (W (goal.at.returns-then-first-last c).After-count-last) _ _ _ _ (bytes (goal.at.returns-then-first-last c).After-count-last) (gap_run (goal.at.returns-then-first-last c).After-fill_gap) v.fill_view.ensures (made_none (le_refl k.count-last.result)) refl
-    (omega (arith, first_is (goal.at.returns-then-first-last c).After-count-last, div-up (W (goal.at.returns-then-first-last c).After-count-last) (p (goal.at.returns-then-first-last c).After-count-last).len (p (goal.at.returns-then-first-last c).After-count-last).len (le_refl (p (goal.at.returns-then-first-last c).After-count-last).len)))
-    (le_of_lt t.if-first-last.true) (le_refl k.count-last.result) (le_of_eq (ap (λ (x : ℕ). x * per (w (goal.at.returns-then-first-last c).After-count-last)) (sym (last_is (goal.at.returns-then-first-last c).After-count-last))))
+    made-three (W (goal.at.returns-then-first-last c).After-count-last) _ _ _ _ (bytes (goal.at.returns-then-first-last c).After-count-last)
+    (gap_run (goal.at.returns-then-first-last c).After-fill_gap) c.fill_view.ensures (made_none (le_refl c.count-last.result)) refl
+    (omega (
+      arith,
+      first_is (goal.at.returns-then-first-last c).After-count-last,
+      div-up (W (goal.at.returns-then-first-last c).After-count-last) (p (goal.at.returns-then-first-last c).After-count-last).len
+          (p (goal.at.returns-then-first-last c).After-count-last).len (le_refl (p (goal.at.returns-then-first-last c).After-count-last).len),
+    ))
+    (le_of_lt c.if-first-last.true) (le_refl c.count-last.result)
+    (le_of_eq (ap (λ (x : ℕ). x * per (w (goal.at.returns-then-first-last c).After-count-last)) (sym (last_is (goal.at.returns-then-first-last c).After-count-last))))
 
 pub returns-else-first-last : goal.returns-else-first-last
 returns-else-first-last c =
-    let g = c in
-    let k = g in
-    made-splice (W (goal.at.returns-else-first-last c).After-count-last) _ _ _ _ (bytes (goal.at.returns-else-first-last c).After-count-last) (gap_run (goal.at.returns-else-first-last c).After-fill_gap) refl (mul-le-mul_right (per (w (goal.at.returns-else-first-last c).After-count-last)) (omega (arith, last_is (goal.at.returns-else-first-last c).After-count-last)))
+    made-splice (W (goal.at.returns-else-first-last c).After-count-last) _ _ _ _ (bytes (goal.at.returns-else-first-last c).After-count-last)
+    (gap_run (goal.at.returns-else-first-last c).After-fill_gap) refl
+    (mul-le-mul_right (per (w (goal.at.returns-else-first-last c).After-count-last)) (omega (arith, last_is (goal.at.returns-else-first-last c).After-count-last)))

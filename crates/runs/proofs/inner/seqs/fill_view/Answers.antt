@@ -77,21 +77,32 @@ module _ (c : After-count-2) where
 
 pub copy_run-requires : goal.copy_run-requires
 copy_run-requires c =
-    let t = c in
-    let fits = copy_room (W (goal.at.copy_run-requires c).Start) (p (goal.at.copy_run-requires c).Start).len t.args.view.now _ _ _ _ _ (placed (goal.at.copy_run-requires c).Start).starts (first_is (goal.at.copy_run-requires c).Start) (last_is (goal.at.copy_run-requires c).Start) (lead_is c) _ (placed (goal.at.copy_run-requires c).Start).inside in record { from_le_to = (le_of_lt (some (goal.at.copy_run-requires c).Start), room (goal.at.copy_run-requires c).Start); from_in_bounds = fits }
+    let fits = copy_room (W (goal.at.copy_run-requires c).Start) (p (goal.at.copy_run-requires c).Start).len c.args.view.now _ _ _ _ _
+    (placed (goal.at.copy_run-requires c).Start).starts (first_is (goal.at.copy_run-requires c).Start) (last_is (goal.at.copy_run-requires c).Start) (lead_is c) _
+    (placed (goal.at.copy_run-requires c).Start).inside in
+    record { from_le_to = (le_of_lt (some (goal.at.copy_run-requires c).Start), room (goal.at.copy_run-requires c).Start); from_in_bounds = fits }
 
 pub join_below-requires : goal.join_below-requires
 join_below-requires c =
-    let t = c in record { width = W (goal.at.join_below-requires c).Start; b_in_bounds = (omega (arith, some (goal.at.join_below-requires c).Start, room (goal.at.join_below-requires c).Start, c.copy_run.ensures.long), omega (arith, k_is c, mod-lt (p (goal.at.join_below-requires c).Start).offset (per_pos (W (goal.at.join_below-requires c).Start)))) }
+    record {
+      width = W (goal.at.join_below-requires c).Start;
+      b_in_bounds = (
+        omega (arith, some (goal.at.join_below-requires c).Start, room (goal.at.join_below-requires c).Start, c.copy_run.ensures.long),
+        omega (arith, k_is c, mod-lt (p (goal.at.join_below-requires c).Start).offset (per_pos (W (goal.at.join_below-requires c).Start))),
+      );
+    }
 
 pub overflow_add-rest : goal.overflow_add-rest
 overflow_add-rest c =
-    let t = c in
-    omega (arith, room_chars (W (goal.at.overflow_add-rest c).Start) (end (goal.at.overflow_add-rest c).Start) (length t.args.buffer.now) (omega (arith, last_is (goal.at.overflow_add-rest c).Start, room (goal.at.overflow_add-rest c).Start)) (small (goal.at.overflow_add-rest c).Start))
+    omega (
+      arith,
+      room_chars (W (goal.at.overflow_add-rest c).Start) (end (goal.at.overflow_add-rest c).Start) (length c.args.buffer.now)
+          (omega (arith, last_is (goal.at.overflow_add-rest c).Start, room (goal.at.overflow_add-rest c).Start)) (small (goal.at.overflow_add-rest c).Start),
+    )
 
 pub chars_in-requires : goal.chars_in-requires
 chars_in-requires c =
-    let t = c in record { width = W (goal.at.chars_in-requires c).Start; n_bound = omega (arith, c.new.ensures, room (goal.at.chars_in-requires c).Start, small (goal.at.chars_in-requires c).Start) }
+    record { width = W (goal.at.chars_in-requires c).Start; n_bound = omega (arith, c.new.ensures, room (goal.at.chars_in-requires c).Start, small (goal.at.chars_in-requires c).Start) }
 
 pub overflow_sub-rest : goal.overflow_sub-rest
 overflow_sub-rest c = omega (arith, starts_is c, before_end (t c))
@@ -101,14 +112,22 @@ overflow_sub-last-2 c = omega (arith, some (t (goal.at.overflow_sub-last-2 c).Af
 
 pub join_above-requires : goal.join_above-requires
 join_above-requires c =
-    let k = c in record { width = W (t (goal.at.join_above-requires c).After-count-2); b_in_bounds = (omega (arith, some (t (goal.at.join_above-requires c).After-count-2), room (t (goal.at.join_above-requires c).After-count-2), long (goal.at.join_above-requires c).After-count-2), omega (arith, starts_is (goal.at.join_above-requires c).After-count-2, behind_end (t (goal.at.join_above-requires c).After-count-2))) }
+    record {
+      width = W (t (goal.at.join_above-requires c).After-count-2);
+      b_in_bounds = (
+        omega (
+          arith,
+          some (t (goal.at.join_above-requires c).After-count-2),
+          room (t (goal.at.join_above-requires c).After-count-2),
+          long (goal.at.join_above-requires c).After-count-2,
+        ),
+        omega (arith, starts_is (goal.at.join_above-requires c).After-count-2, behind_end (t (goal.at.join_above-requires c).After-count-2)),
+      );
+    }
 
 pub returns : goal.returns
 returns c =
-    let n = c in
-    let k = n in
     let u = t (goal.at.returns c).After-count-2 in
-    let g = k in
     made-view (W u) (p u).len u.args.view.now (p u).offset (p u).count _ _ _ (placed u).starts (first_is u) (last_is u) (some u)
-    (lead_is (goal.at.returns c).After-count) (k_is (goal.at.returns c).After-gap_byte) g.gap_byte.ensures (ap (λ (x : ℕ). end u - x) (starts_is (goal.at.returns c).After-count-2))
-    g.copy_run.ensures k.join_below.ensures n.join_above.ensures (λ i. (c.slice_known-4-1.given i).fits)
+    (lead_is (goal.at.returns c).After-count) (k_is (goal.at.returns c).After-gap_byte) c.gap_byte.ensures (ap (λ (x : ℕ). end u - x) (starts_is (goal.at.returns c).After-count-2))
+    c.copy_run.ensures c.join_below.ensures c.join_above.ensures (λ i. (c.slice_known-4-1.given i).fits)

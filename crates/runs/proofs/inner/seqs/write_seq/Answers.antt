@@ -37,24 +37,21 @@ module _ (c : After-count-last) where
 
 pub overflow_add-p : goal.overflow_add-p
 overflow_add-p c =
-    let s = c in
-    let a = s.args in
-    omega (arith, room_chars s.requires.width (a.p.start + a.p.count) (length a.buffer.now) (omega (arith, s.requires.buffer_len_bound.1)) s.requires.buffer_len_bound.0)
+    let a = c.args in
+    omega (arith, room_chars c.requires.width (a.p.start + a.p.count) (length a.buffer.now) (omega (arith, c.requires.buffer_len_bound.1)) c.requires.buffer_len_bound.0)
 
 pub overflow_add-last : goal.overflow_add-last
-overflow_add-last c = let k = c in omega (arith, last_is (goal.at.overflow_add-last c).After-count-last, room (goal.at.overflow_add-last c).After-count-last, small (goal.at.overflow_add-last c).After-count-last)
+overflow_add-last c = omega (arith, last_is (goal.at.overflow_add-last c).After-count-last, room (goal.at.overflow_add-last c).After-count-last, small (goal.at.overflow_add-last c).After-count-last)
 
 pub zero_run-requires : goal.zero_run-requires
-zero_run-requires c = let k = c in (omega arith, omega (arith, last_is (goal.at.zero_run-requires c).After-count-last, room (goal.at.zero_run-requires c).After-count-last, c.fill_seq.auto.buffer))
+zero_run-requires c = (omega arith, omega (arith, last_is (goal.at.zero_run-requires c).After-count-last, room (goal.at.zero_run-requires c).After-count-last, c.fill_seq.auto.buffer))
 
 pub returns : goal.returns
 returns c =
-    let z = c in
-    let f = z in
-    let k = f in
-    let a = k.args in
+    let a = c.args in
     let v = p (goal.at.returns c).After-count-last in
     let cs : List ℕ = placed_chars a.w v a.view.now in
-    let n : end (goal.at.returns c).After-count-last ≡ v.len + length cs = ap (λ (x : ℕ). x + v.count) k.requires.placed.starts ∙ sym (seq_end (W (goal.at.returns c).After-count-last) v.len a.view.now v.offset v.count) in
-    made-written (W (goal.at.returns c).After-count-last) a.buffer.now v.len cs (made_at trailing z.zero_run.ensures (last_is (goal.at.returns c).After-count-last ∙ ap (up a.w) n))
-    (f.fill_seq.ensures ∙ ap (λ (x : ℕ). spliced a.w a.buffer.now v.len cs (up a.w x * per a.w)) n)
+    let n : end (goal.at.returns c).After-count-last ≡ v.len + length cs = ap (λ (x : ℕ). x + v.count) c.requires.placed.starts
+    ∙ sym (seq_end (W (goal.at.returns c).After-count-last) v.len a.view.now v.offset v.count) in
+    made-written (W (goal.at.returns c).After-count-last) a.buffer.now v.len cs (made_at trailing c.zero_run.ensures (last_is (goal.at.returns c).After-count-last ∙ ap (up a.w) n))
+    (c.fill_seq.ensures ∙ ap (λ (x : ℕ). spliced a.w a.buffer.now v.len cs (up a.w x * per a.w)) n)

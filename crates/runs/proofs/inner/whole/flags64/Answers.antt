@@ -30,16 +30,14 @@ loop-k-smaller c = omega arith
 
 pub loop-k-preserved : goal.loop-k-preserved
 loop-k-preserved c =
-    let l = c in
-    let a = l.args in
-    let k = l.loop-k.k in
-    let e = c.load64.ensures ∙ ap (λ (s : List ℕ). word 8 s / 2 ^ (8 * (8 * k)) % 2 ^ 64) l.spread-bits.ensures in
+    let a = c.args in
+    let k = c.loop-k.k in
+    let e = c.load64.ensures ∙ ap (λ (s : List ℕ). word 8 s / 2 ^ (8 * (8 * k)) % 2 ^ 64) c.spread-bits.ensures in
     let v = spread_load a.letters.now 64 a.i (8 * k) c.load64.result (omega arith) e in
-    (omega arith, stacked_more a.letters.now a.i k (omega arith) c.load64.result v l.loop-k.y l.loop-k.invariant.1)
+    (omega arith, stacked_more a.letters.now a.i k (omega arith) c.load64.result v c.loop-k.y c.loop-k.invariant.1)
 
 pub returns : goal.returns
 returns c =
-    let l = c in
-    let a = l.args in
-    let z : Stacked a.letters.now a.i 8 l.loop-k.y = subst (λ (k : ℕ). Stacked a.letters.now a.i k l.loop-k.y) {x = l.loop-k.k} (omega arith) l.loop-k.invariant.1 in
-    stacked_turned a.letters.now a.i 8 l.loop-k.y c.turn.result (le_refl 8) z (search rules) c.turn.ensures
+    let a = c.args in
+    let z : Stacked a.letters.now a.i 8 c.loop-k.y = subst (λ (k : ℕ). Stacked a.letters.now a.i k c.loop-k.y) {x = c.loop-k.k} (omega arith) c.loop-k.invariant.1 in
+    stacked_turned a.letters.now a.i 8 c.loop-k.y c.turn.result (le_refl 8) z (search rules) c.turn.ensures

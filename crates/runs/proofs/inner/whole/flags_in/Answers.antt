@@ -35,7 +35,8 @@ pub overflow_add-result : goal.overflow_add-result
 overflow_add-result c = record { fits = rw (and_under 0x7f7f_7f7f_7f7f_7f7f) (omega arith) }
 
 -- the mask has eight equal bytes, no sum leaves its byte, and no bit does in the last shift: all of it is tested, as the rule is
-flagged : {x : ℕ} (mask : ℕ) → x < 2 ^ 64 → mask ≡ rep 8 (mask % 2 ^ 8) 8 → Small (summed mask) → tab 256 (λ b. rule mask b * 2 ^ 7) ≡ tab 256 (λ b. bit_and (bit_or (summed mask b) (other mask b)) 0x80)
+flagged : {x : ℕ} (mask : ℕ) → x < 2 ^ 64 → mask ≡ rep 8 (mask % 2 ^ 8) 8 → Small (summed mask)
+    → tab 256 (λ b. rule mask b * 2 ^ 7) ≡ tab 256 (λ b. bit_and (bit_or (summed mask b) (other mask b)) 0x80)
     → tab 256 (rule mask) ≡ tab 256 (code 1)
     → bit_and (bit_or (bit_and (others mask x) 0x7f7f_7f7f_7f7f_7f7f + 0x7f7f_7f7f_7f7f_7f7f) (others mask x)) 0x8080_8080_8080_8080 / 2 ^ 7 ≡ word 8 (map (code 1) (chars_of 8 8 x))
 unfolding rep tab

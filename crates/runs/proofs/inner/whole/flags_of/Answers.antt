@@ -30,16 +30,14 @@ loop-k-smaller c = omega arith
 pub loop-k-preserved : goal.loop-k-preserved
 loop-k-preserved c =
     let x = c.load64 in
-    let l = c in
-    let a = l.args in
-    let k = l.loop-k.k in
-    let bytes = Below-of 8 a.letters.now (λ j. (l.shared_slice_known-1.given j).fits) in
+    let a = c.args in
+    let k = c.loop-k.k in
+    let bytes = Below-of 8 a.letters.now (λ j. (c.shared_slice_known-1.given j).fits) in
     let v = spread_made a.letters.now (a.i + 8 * k) x.result c.flags_in.result bytes x.ensures c.flags_in.ensures in
-    (omega arith, stacked_more a.letters.now a.i k (omega arith) c.flags_in.result v l.loop-k.y l.loop-k.invariant.1)
+    (omega arith, stacked_more a.letters.now a.i k (omega arith) c.flags_in.result v c.loop-k.y c.loop-k.invariant.1)
 
 pub returns : goal.returns
 returns c =
-    let l = c in
-    let a = l.args in
-    let z : Stacked a.letters.now a.i a.n l.loop-k.y = subst (λ (k : ℕ). Stacked a.letters.now a.i k l.loop-k.y) {x = l.loop-k.k} (omega arith) l.loop-k.invariant.1 in
-    stacked_turned a.letters.now a.i a.n l.loop-k.y c.turn.result (omega arith) z (search rules) c.turn.ensures
+    let a = c.args in
+    let z : Stacked a.letters.now a.i a.n c.loop-k.y = subst (λ (k : ℕ). Stacked a.letters.now a.i k c.loop-k.y) {x = c.loop-k.k} (omega arith) c.loop-k.invariant.1 in
+    stacked_turned a.letters.now a.i a.n c.loop-k.y c.turn.result (omega arith) z (search rules) c.turn.ensures

@@ -33,11 +33,9 @@ loop-j-smaller c = omega arith
 
 pub loop-j-preserved : goal.loop-j-preserved
 loop-j-preserved c =
-    let k = c in
-    let l = k in
-    let a = l.args in
-    let q = k.flags64.ensures ∙ ap (letters_word 1 64 a.letters.now) l.loop-j.invariant.2 in
-    (omega arith, omega arith, omega arith, letters_more width_1 a.letters.now a.from a.first l.loop-j.invariant.3 (omega arith) (omega arith) (omega arith) q k.store64.ensures)
+    let a = c.args in
+    let q = c.flags64.ensures ∙ ap (letters_word 1 64 a.letters.now) c.loop-j.invariant.2 in
+    (omega arith, omega arith, omega arith, letters_more width_1 a.letters.now a.from a.first c.loop-j.invariant.3 (omega arith) (omega arith) (omega arith) q c.store64.ensures)
 
 pub overflow_sub-last : goal.overflow_sub-last
 overflow_sub-last c = omega arith

@@ -12,9 +12,6 @@ overflow_add-i c = omega arith
 pub bounds-letters-i : goal.bounds-letters-i
 bounds-letters-i c = omega arith
 
-pub flag_of-requires : goal.flag_of-requires
-flag_of-requires c = tt
-
 pub bounds-out-k : goal.bounds-out-k
 bounds-out-k c = omega arith
 

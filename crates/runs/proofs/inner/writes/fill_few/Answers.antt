@@ -28,10 +28,21 @@ module _ (c : After-count-last) where
 
 pub edge_run-requires : goal.edge_run-requires
 edge_run-requires c =
-    let k = c in record { width = W (goal.at.edge_run-requires c).After-count-last; from_le_to = (omega (arith, first_is (goal.at.edge_run-requires c).After-count-last, last_is (goal.at.edge_run-requires c).After-count-last, div-up (W (goal.at.edge_run-requires c).After-count-last) k.args.at (end (goal.at.edge_run-requires c).After-count-last) (omega arith)), omega (arith, last_is (goal.at.edge_run-requires c).After-count-last, k.requires.letters_in_bounds), k.requires.buffer_len_bound) }
+    record {
+      width = W (goal.at.edge_run-requires c).After-count-last;
+      from_le_to = (
+        omega (
+          arith,
+          first_is (goal.at.edge_run-requires c).After-count-last,
+          last_is (goal.at.edge_run-requires c).After-count-last,
+          div-up (W (goal.at.edge_run-requires c).After-count-last) c.args.at (end (goal.at.edge_run-requires c).After-count-last) (omega arith),
+        ),
+        omega (arith, last_is (goal.at.edge_run-requires c).After-count-last, c.requires.letters_in_bounds),
+        c.requires.buffer_len_bound,
+      );
+    }
 
 pub returns : goal.returns
 returns c =
-    let r = c in
-    let k = r in
-    made-splice (W (goal.at.returns c).After-count-last) _ _ _ _ (bytes (goal.at.returns c).After-count-last) r.edge_run.ensures (first_is (goal.at.returns c).After-count-last) (subst (λ (x : ℕ). k.args.stop ≤ x * per k.args.w) (sym (last_is (goal.at.returns c).After-count-last)) k.requires.letters_bound.1)
+    made-splice (W (goal.at.returns c).After-count-last) _ _ _ _ (bytes (goal.at.returns c).After-count-last) c.edge_run.ensures (first_is (goal.at.returns c).After-count-last)
+    (subst (λ (x : ℕ). c.args.stop ≤ x * per c.args.w) (sym (last_is (goal.at.returns c).After-count-last)) c.requires.letters_bound.1)

@@ -115,21 +115,45 @@ starts_is c =
     c.count.ensures ∙ c.chars_in.ensures ∙ ap (λ (x : ℕ). x * per (w (o (goal.at.After-count c).After-whole_run))) c.new.ensures
 
 pub first_letters-requires : goal.first_letters-requires
-first_letters-requires c = let k = c in record { width = W (goal.at.first_letters-requires c).After-count-r; w_bound = ((s (goal.at.first_letters-requires c).After-count-r).requires.w_bound.0, omega (arith, eight (goal.at.first_letters-requires c).After-count-r, per-le (W (goal.at.first_letters-requires c).After-count-r)), few (goal.at.first_letters-requires c).After-count-r) }
+first_letters-requires c = record {
+  width = W (goal.at.first_letters-requires c).After-count-r;
+  w_bound = (
+    (s (goal.at.first_letters-requires c).After-count-r).requires.w_bound.0,
+    omega (arith, eight (goal.at.first_letters-requires c).After-count-r, per-le (W (goal.at.first_letters-requires c).After-count-r)),
+    few (goal.at.first_letters-requires c).After-count-r,
+  );
+}
 
 pub join_above-requires : goal.join_above-requires
-join_above-requires c = let k = c in record { width = W (goal.at.join_above-requires c).After-count-r; b_in_bounds = (omega (arith, next (goal.at.join_above-requires c).After-count-r, to_last (goal.at.join_above-requires c).After-count-r, room (goal.at.join_above-requires c).After-count-r), few (goal.at.join_above-requires c).After-count-r) }
+join_above-requires c = record {
+  width = W (goal.at.join_above-requires c).After-count-r;
+  b_in_bounds = (
+    omega (
+      arith,
+      next (goal.at.join_above-requires c).After-count-r,
+      to_last (goal.at.join_above-requires c).After-count-r,
+      room (goal.at.join_above-requires c).After-count-r,
+    ),
+    few (goal.at.join_above-requires c).After-count-r,
+  );
+}
 
 pub overflow_add-b : goal.overflow_add-b
 overflow_add-b c =
-    let k = c in
     omega (arith, next (goal.at.overflow_add-b c).After-count-r)
 
 pub whole_run-requires : goal.whole_run-requires
 whole_run-requires c =
-    let j = c in
-    let k = j in
-    let e = j.join_above.ensures.long in record { width = W (goal.at.whole_run-requires c).After-count-r; w_bound = (s (goal.at.whole_run-requires c).After-count-r).requires.w_bound.0; from_le_to = (next (goal.at.whole_run-requires c).After-count-r, omega (arith, to_last (goal.at.whole_run-requires c).After-count-r, room (goal.at.whole_run-requires c).After-count-r), omega (arith, (s (goal.at.whole_run-requires c).After-count-r).requires.buffer_len_bound)); at_bound = (behind (goal.at.whole_run-requires c).After-count-r, to_end (goal.at.whole_run-requires c).After-count-r) }
+    let e = c.join_above.ensures.long in record {
+      width = W (goal.at.whole_run-requires c).After-count-r;
+      w_bound = (s (goal.at.whole_run-requires c).After-count-r).requires.w_bound.0;
+      from_le_to = (
+        next (goal.at.whole_run-requires c).After-count-r,
+        omega (arith, to_last (goal.at.whole_run-requires c).After-count-r, room (goal.at.whole_run-requires c).After-count-r),
+        omega (arith, (s (goal.at.whole_run-requires c).After-count-r).requires.buffer_len_bound),
+      );
+      at_bound = (behind (goal.at.whole_run-requires c).After-count-r, to_end (goal.at.whole_run-requires c).After-count-r);
+    }
 
 pub chars_in-requires : goal.chars_in-requires
 chars_in-requires c =
@@ -140,32 +164,33 @@ overflow_sub-rest c = let k = o (goal.at.overflow_sub-rest c).After-whole_run in
 
 pub last_letters-requires : goal.last_letters-requires
 last_letters-requires c =
-    let k = o (goal.at.last_letters-requires c).After-whole_run in record { width = W k; w_bound = ((s k).requires.w_bound.0, omega (arith, eight k, per-le (W k)), omega (arith, r_is k, mod-lt (end k) (per_pos (W k)))) }
+    let k = o (goal.at.last_letters-requires c).After-whole_run in
+    record { width = W k; w_bound = ((s k).requires.w_bound.0, omega (arith, eight k, per-le (W k)), omega (arith, r_is k, mod-lt (end k) (per_pos (W k)))) }
 
 pub join_below-requires : goal.join_below-requires
 join_below-requires c =
-    let n = c in
-    let t = n in
-    let h = t in
     let k = o (goal.at.join_below-requires c).After-whole_run in
-    let some = t.if-r-gt0.true in record { width = W k; b_in_bounds = (omega (arith, last_is k some, room k, long (goal.at.join_below-requires c).After-whole_run), omega (arith, starts_is (goal.at.join_below-requires c).After-count, stop_next k some, suc-mul (to k) (per (w k)))) }
+    let some = c.if-r-gt0.true in record {
+      width = W k;
+      b_in_bounds = (
+        omega (arith, last_is k some, room k, long (goal.at.join_below-requires c).After-whole_run),
+        omega (arith, starts_is (goal.at.join_below-requires c).After-count, stop_next k some, suc-mul (to k) (per (w k))),
+      );
+    }
 
 pub returns-then-r-gt0 : goal.returns-then-r-gt0
 returns-then-r-gt0 c =
-    let j = c in
-    let n = j in
-    let t = n in
-    let h = t in
     let k = o (goal.at.returns-then-r-gt0 c).After-whole_run in
-    let some = t.if-r-gt0.true in
+    let some = c.if-r-gt0.true in
     let last =
     made-last (W k) (s k).args.at (s k).args.letters.now (s k).args.stop (eight k) (r_is k) some
-    j.last_letters.ensures (to_is k) (omega (arith, behind k, next_to k)) (stops k) (ap (λ (x : ℕ). (s k).args.stop - x) (starts_is (goal.at.returns-then-r-gt0 c).After-count))
-    (λ i. (c.slice_known-then-r-gt0-1.given i).fits) j.join_below.ensures in
-    made-three (W k) _ _ _ _ (bytes k) (first_run (goal.at.returns-then-r-gt0 c).After-whole_run) (whole_run (goal.at.returns-then-r-gt0 c).After-whole_run) last (b_is k) (omega arith) (next k) (omega arith) (stop_next k some)
+    c.last_letters.ensures (to_is k) (omega (arith, behind k, next_to k)) (stops k) (ap (λ (x : ℕ). (s k).args.stop - x) (starts_is (goal.at.returns-then-r-gt0 c).After-count))
+    (λ i. (c.slice_known-then-r-gt0-1.given i).fits) c.join_below.ensures in
+    made-three (W k) _ _ _ _ (bytes k) (first_run (goal.at.returns-then-r-gt0 c).After-whole_run) (whole_run (goal.at.returns-then-r-gt0 c).After-whole_run) last (b_is k)
+    (omega arith) (next k) (omega arith) (stop_next k some)
 
 pub returns-else-r-gt0 : goal.returns-else-r-gt0
 returns-else-r-gt0 c =
-    let h = c in
     let k = o (goal.at.returns-else-r-gt0 c).After-whole_run in
-    made-three (W k) _ _ _ _ (bytes k) (first_run (goal.at.returns-else-r-gt0 c).After-whole_run) (whole_run (goal.at.returns-else-r-gt0 c).After-whole_run) (made_none (le_refl (to k))) (b_is k) (omega arith) (next k) (le_refl (to k)) (stop_full k (omega (arith, c.if-r-gt0.false)))
+    made-three (W k) _ _ _ _ (bytes k) (first_run (goal.at.returns-else-r-gt0 c).After-whole_run) (whole_run (goal.at.returns-else-r-gt0 c).After-whole_run)
+    (made_none (le_refl (to k))) (b_is k) (omega arith) (next k) (le_refl (to k)) (stop_full k (omega (arith, c.if-r-gt0.false)))

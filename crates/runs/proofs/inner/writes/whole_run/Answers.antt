@@ -39,13 +39,16 @@ pub overflow_sub-from : goal.overflow_sub-from
 overflow_sub-from c = starts (goal.at.overflow_sub-from c).Start c.if-w-eq2.true
 
 pub bases_run-requires : goal.bases_run-requires
-bases_run-requires c = let s = c in record { from_le_to = (s.requires.from_le_to.0, s.requires.from_le_to.1); from_in_bounds = room (goal.at.bases_run-requires c).Start c.if-w-eq2.true }
+bases_run-requires c = record { from_le_to = (c.requires.from_le_to.0, c.requires.from_le_to.1); from_in_bounds = room (goal.at.bases_run-requires c).Start c.if-w-eq2.true }
 
 pub overflow_sub-from-else-w-eq2 : goal.overflow_sub-from-else-w-eq2
 overflow_sub-from-else-w-eq2 c = starts (goal.at.overflow_sub-from-else-w-eq2 c).Start (flags_width (goal.at.overflow_sub-from-else-w-eq2 c).Else-w-eq2)
 
 pub flags_run-requires : goal.flags_run-requires
-flags_run-requires c = let s = c in record { from_le_to = (s.requires.from_le_to.0, s.requires.from_le_to.1); from_in_bounds = room (goal.at.flags_run-requires c).Start (flags_width (goal.at.flags_run-requires c).Else-w-eq2) }
+flags_run-requires c = record {
+  from_le_to = (c.requires.from_le_to.0, c.requires.from_le_to.1);
+  from_in_bounds = room (goal.at.flags_run-requires c).Start (flags_width (goal.at.flags_run-requires c).Else-w-eq2);
+}
 
 pub returns-then-w-eq2 : goal.returns-then-w-eq2
 returns-then-w-eq2 c = run (goal.at.returns-then-w-eq2 c).Start c.if-w-eq2.true c.bases_run.ensures

@@ -36,9 +36,8 @@ module _ (c : After-count-last) where
 
 pub overflow_add-end : goal.overflow_add-end
 overflow_add-end c =
-    let s = c in
-    let a = s.args in
-    omega (arith, room_chars s.requires.width (a.at + length a.letters.now) (length a.buffer.now) (omega arith) s.requires.buffer_len_bound)
+    let a = c.args in
+    omega (arith, room_chars c.requires.width (a.at + length a.letters.now) (length a.buffer.now) (omega arith) c.requires.buffer_len_bound)
 
 pub chars_in-requires : goal.chars_in-requires
 chars_in-requires c = record { width = W c; n_bound = omega (arith, used-is c, room c, small c) }
@@ -49,22 +48,24 @@ stop_is c = c.count-stop.ensures ∙ c.chars_in.ensures ∙ ap (λ (x : ℕ). x 
 
 pub fill_letters-requires : goal.fill_letters-requires
 fill_letters-requires c =
-    let k = c in
-    let e = stop_is (goal.at.fill_letters-requires c).After-count-stop in record { width = W (goal.at.fill_letters-requires c).After-count-last; buffer_len_bound = small (goal.at.fill_letters-requires c).After-count-last; letters_in_bounds = omega (arith, room (goal.at.fill_letters-requires c).After-count-last); letters_bound = (omega (arith, e, up-hi (W (goal.at.fill_letters-requires c).After-count-last) (end (goal.at.fill_letters-requires c).After-count-last)), le_of_eq e) }
+    let e = stop_is (goal.at.fill_letters-requires c).After-count-stop in
+    record {
+      width = W (goal.at.fill_letters-requires c).After-count-last;
+      buffer_len_bound = small (goal.at.fill_letters-requires c).After-count-last;
+      letters_in_bounds = omega (arith, room (goal.at.fill_letters-requires c).After-count-last);
+      letters_bound = (omega (arith, e, up-hi (W (goal.at.fill_letters-requires c).After-count-last) (end (goal.at.fill_letters-requires c).After-count-last)), le_of_eq e);
+    }
 
 pub overflow_add-last : goal.overflow_add-last
-overflow_add-last c = let k = c in omega (arith, last_is (goal.at.overflow_add-last c).After-count-last, room (goal.at.overflow_add-last c).After-count-last, small (goal.at.overflow_add-last c).After-count-last)
+overflow_add-last c = omega (arith, last_is (goal.at.overflow_add-last c).After-count-last, room (goal.at.overflow_add-last c).After-count-last, small (goal.at.overflow_add-last c).After-count-last)
 
 pub zero_run-requires : goal.zero_run-requires
-zero_run-requires c = let k = c in (omega arith, omega (arith, last_is (goal.at.zero_run-requires c).After-count-last, room (goal.at.zero_run-requires c).After-count-last, c.fill_letters.auto.buffer))
+zero_run-requires c = (omega arith, omega (arith, last_is (goal.at.zero_run-requires c).After-count-last, room (goal.at.zero_run-requires c).After-count-last, c.fill_letters.auto.buffer))
 
 pub returns : goal.returns
 returns c =
-    let z = c in
-    let f = z in
-    let k = f in
-    let a = k.args in
+    let a = c.args in
     let cs : List ℕ = map (code a.w) a.letters.now in
     let u : up a.w (end (goal.at.returns c).After-count-last) ≡ up a.w (a.at + length cs) = ap (λ (x : ℕ). up a.w (a.at + x)) (sym (length-map a.letters.now (code a.w))) in
-    made-written (W (goal.at.returns c).After-count-last) a.buffer.now a.at cs (made_at trailing z.zero_run.ensures (last_is (goal.at.returns c).After-count-last ∙ u))
-    (f.fill_letters.ensures ∙ ap (spliced a.w a.buffer.now a.at cs) (stop_is (goal.at.returns c).After-count-stop ∙ ap (λ (x : ℕ). x * per a.w) u))
+    made-written (W (goal.at.returns c).After-count-last) a.buffer.now a.at cs (made_at trailing c.zero_run.ensures (last_is (goal.at.returns c).After-count-last ∙ u))
+    (c.fill_letters.ensures ∙ ap (spliced a.w a.buffer.now a.at cs) (stop_is (goal.at.returns c).After-count-stop ∙ ap (λ (x : ℕ). x * per a.w) u))

@@ -19,29 +19,23 @@ judged c = record { is = c.clear_outcome-outcome.ensures }
 
 pub write_letters-requires : goal.write_letters-requires
 write_letters-requires c =
-    let k = c in
-    let o = k in
-    let s = o in
-    let p = judged_passed (judged (goal.at.write_letters-requires c).After-clear_outcome-outcome) k.in-Done.is in
-    let long : trailing ≤ length s.args.buffer.now = ltb-false _ _ p.1.0 in record { width = s.requires; buffer_len_bound = ltb-false _ _ p.0; trailing_in_bounds = omega (arith, up_le s.requires 0) }
+    let p = judged_passed (judged (goal.at.write_letters-requires c).After-clear_outcome-outcome) c.in-Done.is in
+    let long : trailing ≤ length c.args.buffer.now = ltb-false _ _ p.1.0 in record { width = c.requires; buffer_len_bound = ltb-false _ _ p.0; trailing_in_bounds = omega (arith, up_le c.requires 0) }
 
 pub returns-in-Refused : goal.returns-in-Refused
 returns-in-Refused c =
-    let n = c in
     let h = judged (goal.at.returns-in-Refused c).After-clear_outcome-outcome in
     let q = c.in-Refused.is in
     record {
-      says = ap (λ (x : ℕ). answer (Refused c.in-Refused.refusal) (0, 0, 0) (0, 0, x)) n.new-none.ensures ∙ refused_says h q;
+      says = ap (λ (x : ℕ). answer (Refused c.in-Refused.refusal) (0, 0, 0) (0, 0, x)) c.new-none.ensures ∙ refused_says h q;
       bytes = refused_after h q;
     }
 
 pub returns-in-Done : goal.returns-in-Done
 returns-in-Done c =
-    let k = c in
-    let n = k in
     let h = judged (goal.at.returns-in-Done c).After-clear_outcome-outcome in
-    let q = k.in-Done.is in
+    let q = c.in-Done.is in
     record {
-      says = ap (λ (x : ℕ). answer Done (0, 0, x) (0, 0, 0)) n.new-none.ensures ∙ done_says h q;
+      says = ap (λ (x : ℕ). answer Done (0, 0, x) (0, 0, 0)) c.new-none.ensures ∙ done_says h q;
       bytes = c.write_letters.ensures ∙ done_after h q;
     }

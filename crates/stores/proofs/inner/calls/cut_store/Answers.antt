@@ -26,13 +26,11 @@ judged c =
 
 pub write_letters-requires : goal.write_letters-requires
 write_letters-requires c =
-    let k = c in
-    let o = k in
-    let s = o in
-    let n = o.count-at in
-    let p = judged_passed (judged (goal.at.write_letters-requires c).After-end_outcome-outcome) k.in-Done.is in
-    let sound : up s.args.w s.args.len.0 + trailing ≤ length s.args.buffer.now = ltb-false _ _ p.1.0 in
-    let within : s.args.m.0 ≤ s.args.len.0 = ltb-false _ _ p.1.1.0 in record { width = s.requires; buffer_len_bound = ltb-false _ _ p.0; trailing_in_bounds = omega (arith, up-mono s.requires (n.result + 0) s.args.len.0 (omega (arith, n.ensures))) }
+    let n = c.count-at in
+    let p = judged_passed (judged (goal.at.write_letters-requires c).After-end_outcome-outcome) c.in-Done.is in
+    let sound : up c.args.w c.args.len.0 + trailing ≤ length c.args.buffer.now = ltb-false _ _ p.1.0 in
+    let within : c.args.m.0 ≤ c.args.len.0 = ltb-false _ _ p.1.1.0 in
+    record { width = c.requires; buffer_len_bound = ltb-false _ _ p.0; trailing_in_bounds = omega (arith, up-mono c.requires (n.result + 0) c.args.len.0 (omega (arith, n.ensures))) }
 
 pub returns-in-Refused : goal.returns-in-Refused
 returns-in-Refused c =
@@ -42,11 +40,9 @@ returns-in-Refused c =
 
 pub returns-in-Done : goal.returns-in-Done
 returns-in-Done c =
-    let k = c in
-    let o = k in
-    let a = o.args in
+    let a = c.args in
     let h = judged (goal.at.returns-in-Done c).After-end_outcome-outcome in
-    let q = k.in-Done.is in record {
+    let q = c.in-Done.is in record {
       says = done_says h q;
-      bytes = c.write_letters.ensures ∙ ap (λ (x : ℕ). written a.w a.buffer.now x []) o.count-at.ensures ∙ done_after h q;
+      bytes = c.write_letters.ensures ∙ ap (λ (x : ℕ). written a.w a.buffer.now x []) c.count-at.ensures ∙ done_after h q;
     }

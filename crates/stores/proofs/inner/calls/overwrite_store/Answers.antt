@@ -40,15 +40,24 @@ module _ (c : In-Done) where
 
 pub overflow_add-at : goal.overflow_add-at
 overflow_add-at c =
-    let k = c in
-    omega (arith, c.count-at.ensures, within (goal.at.overflow_add-at c).In-Done, room_chars k.requires k.args.len.0 (size (goal.at.overflow_add-at c).In-Done) (omega (arith, sound (goal.at.overflow_add-at c).In-Done)) (small (goal.at.overflow_add-at c).In-Done))
+    omega (
+      arith,
+      c.count-at.ensures,
+      within (goal.at.overflow_add-at c).In-Done,
+      room_chars c.requires c.args.len.0 (size (goal.at.overflow_add-at c).In-Done) (omega (arith, sound (goal.at.overflow_add-at c).In-Done)) (small (goal.at.overflow_add-at c).In-Done),
+    )
 
 pub fill_letters-requires : goal.fill_letters-requires
 fill_letters-requires c =
-    let k = c in
-    let W = k.requires in
-    let e = c.count-at.result + length k.args.letters.now in
-    let l = up-mono W e k.args.len.0 (omega (arith, within (goal.at.fill_letters-requires c).In-Done, c.count-at.ensures)) in record { width = W; buffer_len_bound = small (goal.at.fill_letters-requires c).In-Done; letters_in_bounds = omega (arith, sound (goal.at.fill_letters-requires c).In-Done, l); letters_bound = (le_refl e, up-hi W e) }
+    let W = c.requires in
+    let e = c.count-at.result + length c.args.letters.now in
+    let l = up-mono W e c.args.len.0 (omega (arith, within (goal.at.fill_letters-requires c).In-Done, c.count-at.ensures)) in
+    record {
+      width = W;
+      buffer_len_bound = small (goal.at.fill_letters-requires c).In-Done;
+      letters_in_bounds = omega (arith, sound (goal.at.fill_letters-requires c).In-Done, l);
+      letters_bound = (le_refl e, up-hi W e);
+    }
 
 pub returns-in-Refused : goal.returns-in-Refused
 returns-in-Refused c =
@@ -58,12 +67,11 @@ returns-in-Refused c =
 pub returns-in-Done : goal.returns-in-Done
 unfolding overwritten
 returns-in-Done c =
-    let k = c in
-    let a = k.args in
+    let a = c.args in
     let cs : List ℕ = map (code a.w) a.letters.now in
     let at = c.count-at.ensures in
     let h = judged (goal.at.returns-in-Done c).After-end_outcome-outcome in
-    let q = k.in-Done.is in record {
+    let q = c.in-Done.is in record {
       says = done_says h q;
       bytes = c.fill_letters.ensures
           ∙ ap₂ (λ (x n : ℕ). pack a.w (size (goal.at.returns-in-Done c).In-Done) (splice (char_at a.w a.buffer.now) x cs (x + n))) at (sym (length-map a.letters.now (code a.w)))

@@ -45,27 +45,32 @@ returns-then-count-eq0 c = let q = push_none _ (judged (goal.at.returns-then-cou
 
 pub write_letters-requires : goal.write_letters-requires
 write_letters-requires c =
-    let k = c in
-    let a = k.args in record { width = k.requires; buffer_len_bound = small (goal.at.write_letters-requires c).In_default; trailing_in_bounds = subst (λ (x : ℕ). up a.w (x + length a.letters.now) + trailing ≤ size (goal.at.write_letters-requires c).In_default) (sym c.count-at.ensures) (room (goal.at.write_letters-requires c).In_default) }
+    let a = c.args in record {
+      width = c.requires;
+      buffer_len_bound = small (goal.at.write_letters-requires c).In_default;
+      trailing_in_bounds = subst (λ (x : ℕ). up a.w (x + length a.letters.now) + trailing ≤ size (goal.at.write_letters-requires c).In_default) (sym c.count-at.ensures)
+          (room (goal.at.write_letters-requires c).In_default);
+    }
 
 pub overflow_add-at : goal.overflow_add-at
 overflow_add-at c =
-    let n = c in
-    let k = n in
-    let a = k.args in
-    omega (arith, n.count-at.ensures, room_chars k.requires (a.len.0 + length a.letters.now) (size (goal.at.overflow_add-at c).In_default) (omega (arith, room (goal.at.overflow_add-at c).In_default)) (small (goal.at.overflow_add-at c).In_default))
+    let a = c.args in
+    omega (
+      arith,
+      c.count-at.ensures,
+      room_chars c.requires (a.len.0 + length a.letters.now) (size (goal.at.overflow_add-at c).In_default)
+          (omega (arith, room (goal.at.overflow_add-at c).In_default)) (small (goal.at.overflow_add-at c).In_default),
+    )
 
 pub returns : goal.returns
 returns c =
-    let n = c in
-    let k = n in
-    let a = k.args in
+    let a = c.args in
     let ls : List ℕ = a.letters.now in
-    let end = c.new.ensures ∙ ap (λ (x : ℕ). x + length ls) n.count-at.ensures in
+    let end = c.new.ensures ∙ ap (λ (x : ℕ). x + length ls) c.count-at.ensures in
     let h = judged (goal.at.returns c).After-letters_outcome-outcome in
-    let q = k.in_default.is in record {
+    let q = c.in_default.is in record {
       says = ap (λ (x : ℕ). answer Done (a.len.0, x, x) (0, 0, 0)) end ∙ done_says h q;
       bytes = c.write_letters.ensures
-          ∙ ap (λ (x : ℕ). written a.w a.buffer.now x (map (code a.w) ls)) n.count-at.ensures
-          ∙ push_some ls h q n.if-count-eq0.false;
+          ∙ ap (λ (x : ℕ). written a.w a.buffer.now x (map (code a.w) ls)) c.count-at.ensures
+          ∙ push_some ls h q c.if-count-eq0.false;
     }

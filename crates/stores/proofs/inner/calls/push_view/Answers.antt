@@ -44,28 +44,35 @@ module _ (c : In-Done) where
   room = ltb-false _ _ passed.1.1.1.1.0
 
 pub seq_start-requires : goal.seq_start-requires
-seq_start-requires c = let k = c in record { width = k.requires; len_bound = omega (arith, sound (goal.at.seq_start-requires c).In-Done, small (goal.at.seq_start-requires c).In-Done) }
+seq_start-requires c = record { width = c.requires; len_bound = omega (arith, sound (goal.at.seq_start-requires c).In-Done, small (goal.at.seq_start-requires c).In-Done) }
 
 pub write_seq-requires : goal.write_seq-requires
 write_seq-requires c =
-    let o = c in
-    let n = o in
-    let k = n in
-    let w : ℕ = k.args.w in
-    let at = o.seq_start.ensures in
-    let placed : Placed w n.count.result o.seq_start.result o.count-in-Done.result c.count-in-Done-2.result (length k.args.bytes.now) = record {
-      starts = at ∙ ap₂ (seq_start w) (sym n.count.ensures) (sym o.count-in-Done.ensures);
+    let w : ℕ = c.args.w in
+    let at = c.seq_start.ensures in
+    let placed : Placed w c.count.result c.seq_start.result c.count-in-Done.result c.count-in-Done-2.result (length c.args.bytes.now) = record {
+      starts = at ∙ ap₂ (seq_start w) (sym c.count.ensures) (sym c.count-in-Done.ensures);
       small = view_small (goal.at.write_seq-requires c).In-Done;
-      inside = omega (arith, view (goal.at.write_seq-requires c).In-Done, o.count-in-Done.ensures, c.count-in-Done-2.ensures);
-    } in record { width = k.requires; placed = placed; buffer_len_bound = (small (goal.at.write_seq-requires c).In-Done, subst (λ (x : ℕ). up w x + trailing ≤ size (goal.at.write_seq-requires c).In-Done) (sym (ap₂ ◌+◌ at c.count-in-Done-2.ensures)) (room (goal.at.write_seq-requires c).In-Done)) }
+      inside = omega (arith, view (goal.at.write_seq-requires c).In-Done, c.count-in-Done.ensures, c.count-in-Done-2.ensures);
+    } in record {
+      width = c.requires;
+      placed = placed;
+      buffer_len_bound = (
+        small (goal.at.write_seq-requires c).In-Done,
+        subst (λ (x : ℕ). up w x + trailing ≤ size (goal.at.write_seq-requires c).In-Done) (sym (ap₂ ◌+◌ at c.count-in-Done-2.ensures)) (room (goal.at.write_seq-requires c).In-Done),
+      );
+    }
 
 pub overflow_add-place : goal.overflow_add-place
 overflow_add-place c =
-    let n = c in
-    let x = n in
-    let k = x in
-    let a = k.args in
-    omega (arith, x.seq_start.ensures, n.count-in-Done-2.ensures, room_chars k.requires (seq_start a.w a.len.0 a.offset.0 + a.count.0) (size (goal.at.overflow_add-place c).In-Done) (omega (arith, room (goal.at.overflow_add-place c).In-Done)) (small (goal.at.overflow_add-place c).In-Done))
+    let a = c.args in
+    omega (
+      arith,
+      c.seq_start.ensures,
+      c.count-in-Done-2.ensures,
+      room_chars c.requires (seq_start a.w a.len.0 a.offset.0 + a.count.0) (size (goal.at.overflow_add-place c).In-Done)
+          (omega (arith, room (goal.at.overflow_add-place c).In-Done)) (small (goal.at.overflow_add-place c).In-Done),
+    )
 
 pub returns-in-Refused : goal.returns-in-Refused
 returns-in-Refused c =
@@ -74,17 +81,16 @@ returns-in-Refused c =
 
 pub returns-in-Done : goal.returns-in-Done
 returns-in-Done c =
-    let m = c in
-    let x = m in
+    let x = c in
     let k = x in
     let a = k.args in
     let at = x.seq_start.ensures in
-    let count = m.count-in-Done-2.ensures in
+    let count = c.count-in-Done-2.ensures in
     let h = judged (goal.at.returns-in-Done c).After-seq_outcome-outcome in
     let q = k.in-Done.is in record {
       says = ap₂ (λ (x y : ℕ). answer Done (x, y, y) (0, 0, 0)) (c.new.ensures ∙ at) (c.new-in-Done.ensures ∙ ap₂ ◌+◌ at count) ∙ done_says h q;
       bytes = c.write_seq.ensures
           ∙ (λ i.
-          written a.w a.buffer.now (x.count.ensures i) (seq_chars a.w (x.count.ensures i) a.bytes.now (m.count-in-Done.ensures i) (count i)))
+          written a.w a.buffer.now (x.count.ensures i) (seq_chars a.w (x.count.ensures i) a.bytes.now (c.count-in-Done.ensures i) (count i)))
           ∙ done_after h q;
     }

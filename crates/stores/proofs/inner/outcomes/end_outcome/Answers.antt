@@ -23,18 +23,15 @@ returns-then-bad_store c = rw (short (goal.at.returns-then-bad_store c).Else-too
 
 pub returns-then-n-at : goal.returns-then-n-at
 returns-then-n-at c =
-    let k = c in
-    let a = k.args in
+    let a = c.args in
     rw (short (goal.at.returns-then-n-at c).Else-too_long, sound (goal.at.returns-then-n-at c).Else-bad_store, lt-ltb a.len.0 (a.start.0 + a.count) (omega arith))
 
 pub returns-then-n-at-2 : goal.returns-then-n-at-2
 returns-then-n-at-2 c =
-    let k = c in
-    let a = k.args in
+    let a = c.args in
     rw (short (goal.at.returns-then-n-at-2 c).Else-too_long, sound (goal.at.returns-then-n-at-2 c).Else-bad_store, lt-ltb a.len.0 (a.start.0 + a.count) (omega arith))
 
 pub returns : goal.returns
 returns c =
-    let k = c in
-    let a = k.args in
+    let a = c.args in
     rw (short (goal.at.returns c).Else-too_long, sound (goal.at.returns c).Else-bad_store, le-ltb a.len.0 (a.start.0 + a.count) (omega arith))

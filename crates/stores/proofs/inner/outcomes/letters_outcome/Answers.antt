@@ -26,15 +26,13 @@ returns-then-bad_store c = rw (short (goal.at.returns-then-bad_store c).Else-too
 
 pub overflow_add-count : goal.overflow_add-count
 overflow_add-count c =
-    let s = c in
-    let a = s.args in
+    let a = c.args in
     let l : up a.w a.len.0 + trailing ≤ a.size = ltb-false _ _ (sound (goal.at.overflow_add-count c).Else-bad_store) in
-    omega (arith, room_chars s.requires.width a.len.0 a.size (omega arith) (ltb-false _ _ (short (goal.at.overflow_add-count c).Else-too_long)))
+    omega (arith, room_chars c.requires.width a.len.0 a.size (omega arith) (ltb-false _ _ (short (goal.at.overflow_add-count c).Else-too_long)))
 
 pub no_room-requires : goal.no_room-requires
 no_room-requires c =
-    let s = c in
-    let l : up s.args.w s.args.len.0 + trailing ≤ s.args.size = ltb-false _ _ (sound (goal.at.no_room-requires c).Else-bad_store) in record { width = s.requires.width; trailing_le_size = omega arith }
+    let l : up c.args.w c.args.len.0 + trailing ≤ c.args.size = ltb-false _ _ (sound (goal.at.no_room-requires c).Else-bad_store) in record { width = c.requires.width; trailing_le_size = omega arith }
 
 -- the last test
 full : (c : After-no_room) (b : Bool) → c.no_room.result ≡ b
@@ -45,10 +43,8 @@ full c b e =
 
 pub returns-then-no_room : goal.returns-then-no_room
 returns-then-no_room c =
-    let k = c in
     rw (short (goal.at.returns-then-no_room c).Else-too_long, sound (goal.at.returns-then-no_room c).Else-bad_store, full (goal.at.returns-then-no_room c).After-no_room _ c.if-no_room.true)
 
 pub returns : goal.returns
 returns c =
-    let k = c in
     rw (short (goal.at.returns c).Else-too_long, sound (goal.at.returns c).Else-bad_store, full (goal.at.returns c).After-no_room _ c.if-no_room.false)

@@ -34,44 +34,39 @@ returns-then-too_long-2 c = rw (short (goal.at.returns-then-too_long-2 c).Else-t
 
 pub returns-then-bad_store : goal.returns-then-bad_store
 returns-then-bad_store c =
-    let v = c in
     rw (short (goal.at.returns-then-bad_store c).Else-too_long, view_short (goal.at.returns-then-bad_store c).Else-too_long-2, sym c.bad_store.ensures ∙ c.if-bad_store.true)
 
 pub bad_view-requires : goal.bad_view-requires
 bad_view-requires c =
-    let v = c in record { width = v.requires; n_bound = ltb-false _ _ (view_short (goal.at.bad_view-requires c).Else-too_long-2) }
+    record { width = c.requires; n_bound = ltb-false _ _ (view_short (goal.at.bad_view-requires c).Else-too_long-2) }
 
 pub returns-then-bad_view : goal.returns-then-bad_view
 returns-then-bad_view c =
-    let k = c in
-    let v = k in
-    rw (short (goal.at.returns-then-bad_view c).Else-too_long, view_short (goal.at.returns-then-bad_view c).Else-too_long-2, sound (goal.at.returns-then-bad_view c).Else-bad_store, sym c.bad_view.ensures ∙ c.if-bad_view.true)
+    rw (
+      short (goal.at.returns-then-bad_view c).Else-too_long,
+      view_short (goal.at.returns-then-bad_view c).Else-too_long-2,
+      sound (goal.at.returns-then-bad_view c).Else-bad_store,
+      sym c.bad_view.ensures ∙ c.if-bad_view.true,
+    )
 
 pub seq_start-requires : goal.seq_start-requires
 seq_start-requires c =
-    let k = c in
-    let s = k in
-    let h : s.args.size ≤ 2 ^ 28 = ltb-false _ _ (short (goal.at.seq_start-requires c).Else-too_long) in
-    let l : up s.args.w s.args.len.0 + trailing ≤ s.args.size = ltb-false _ _ (sound (goal.at.seq_start-requires c).Else-bad_store) in record { width = s.requires; len_bound = omega arith }
+    let h : c.args.size ≤ 2 ^ 28 = ltb-false _ _ (short (goal.at.seq_start-requires c).Else-too_long) in
+    let l : up c.args.w c.args.len.0 + trailing ≤ c.args.size = ltb-false _ _ (sound (goal.at.seq_start-requires c).Else-bad_store) in record { width = c.requires; len_bound = omega arith }
 
 pub overflow_add-seq_start : goal.overflow_add-seq_start
 overflow_add-seq_start c =
-    let x = c in
-    let k = x in
-    let s = k in
-    let a = s.args in
+    let a = c.args in
     let h : a.size ≤ 2 ^ 28 = ltb-false _ _ (short (goal.at.overflow_add-seq_start c).Else-too_long) in
     let l : up a.w a.len.0 + trailing ≤ a.size = ltb-false _ _ (sound (goal.at.overflow_add-seq_start c).Else-bad_store) in
     let v : a.offset.0 + a.count.0 + trailing * per a.w ≤ a.bytes * per a.w = ltb-false _ _ (held (goal.at.overflow_add-seq_start c).Else-bad_view) in
-    let few = chars-bound s.requires a.bytes (ltb-false _ _ (view_short (goal.at.overflow_add-seq_start c).Else-too_long-2)) in
-    let long = chars-bound s.requires (up a.w a.len.0) (omega arith) in
-    omega (arith, c.seq_start.ensures, c.count.ensures, few, long, mod-lt a.offset.0 (per_pos s.requires), per-le s.requires)
+    let few = chars-bound c.requires a.bytes (ltb-false _ _ (view_short (goal.at.overflow_add-seq_start c).Else-too_long-2)) in
+    let long = chars-bound c.requires (up a.w a.len.0) (omega arith) in
+    omega (arith, c.seq_start.ensures, c.count.ensures, few, long, mod-lt a.offset.0 (per_pos c.requires), per-le c.requires)
 
 pub no_room-requires : goal.no_room-requires
 no_room-requires c =
-    let k = c in
-    let s = k in
-    let l : up s.args.w s.args.len.0 + trailing ≤ s.args.size = ltb-false _ _ (sound (goal.at.no_room-requires c).Else-bad_store) in record { width = s.requires; trailing_le_size = omega arith }
+    let l : up c.args.w c.args.len.0 + trailing ≤ c.args.size = ltb-false _ _ (sound (goal.at.no_room-requires c).Else-bad_store) in record { width = c.requires; trailing_le_size = omega arith }
 
 -- the last test
 full : (c : After-no_room) (b : Bool) → c.no_room.result ≡ b
@@ -83,14 +78,20 @@ full c b e =
 
 pub returns-then-no_room : goal.returns-then-no_room
 returns-then-no_room c =
-    let x = c in
-    let k = x in
-    let v = k in
-    rw (short (goal.at.returns-then-no_room c).Else-too_long, view_short (goal.at.returns-then-no_room c).Else-too_long-2, sound (goal.at.returns-then-no_room c).Else-bad_store, held (goal.at.returns-then-no_room c).Else-bad_view, full (goal.at.returns-then-no_room c).After-no_room _ c.if-no_room.true)
+    rw (
+      short (goal.at.returns-then-no_room c).Else-too_long,
+      view_short (goal.at.returns-then-no_room c).Else-too_long-2,
+      sound (goal.at.returns-then-no_room c).Else-bad_store,
+      held (goal.at.returns-then-no_room c).Else-bad_view,
+      full (goal.at.returns-then-no_room c).After-no_room _ c.if-no_room.true,
+    )
 
 pub returns : goal.returns
 returns c =
-    let x = c in
-    let k = x in
-    let v = k in
-    rw (short (goal.at.returns c).Else-too_long, view_short (goal.at.returns c).Else-too_long-2, sound (goal.at.returns c).Else-bad_store, held (goal.at.returns c).Else-bad_view, full (goal.at.returns c).After-no_room _ c.if-no_room.false)
+    rw (
+      short (goal.at.returns c).Else-too_long,
+      view_short (goal.at.returns c).Else-too_long-2,
+      sound (goal.at.returns c).Else-bad_store,
+      held (goal.at.returns c).Else-bad_view,
+      full (goal.at.returns c).After-no_room _ c.if-no_room.false,
+    )

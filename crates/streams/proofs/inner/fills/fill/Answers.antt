@@ -13,8 +13,7 @@ answered c = record { said = rw (← c.new-none.ensures) c.fill_answer.ensures }
 
 pub fill_one-requires : goal.fill_one-requires
 fill_one-requires c =
-    let f = c in
-    let r = done_ready (answered (goal.at.fill_one-requires c).After-fill_answer) c.in-Is.is in record { width = f.requires; factor_value = r.0; factor_in_bounds = r.1.0 }
+    let r = done_ready (answered (goal.at.fill_one-requires c).After-fill_answer) c.in-Is.is in record { width = c.requires; factor_value = r.0; factor_in_bounds = r.1.0 }
 
 pub returns-in-Refused : goal.returns-in-Refused
 returns-in-Refused c =
@@ -23,6 +22,5 @@ returns-in-Refused c =
 
 pub returns-in-Is : goal.returns-in-Is
 returns-in-Is c =
-    let m = c in
     let h = answered (goal.at.returns-in-Is c).After-fill_answer in
-    let q = m.in-Is.is in record { answer = done_says h q; out = (rw m.new-none.ensures at c.fill_one.ensures) ∙ done_fills h q _ _ }
+    let q = c.in-Is.is in record { answer = done_says h q; out = (rw c.new-none.ensures at c.fill_one.ensures) ∙ done_fills h q _ _ }

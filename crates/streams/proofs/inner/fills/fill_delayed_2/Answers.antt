@@ -16,20 +16,15 @@ answered c =
 
 pub fill_one-requires : goal.fill_one-requires
 fill_one-requires c =
-    let f = c in
-    let r = done_ready (answered (goal.at.fill_one-requires c).After-fill_answer) c.in-Is.is in record { width = f.requires; factor_value = r.0; factor_in_bounds = r.1.0 }
+    let r = done_ready (answered (goal.at.fill_one-requires c).After-fill_answer) c.in-Is.is in record { width = c.requires; factor_value = r.0; factor_in_bounds = r.1.0 }
 
 pub fill_one-requires-in-Is : goal.fill_one-requires-in-Is
 fill_one-requires-in-Is c =
-    let m = c in
-    let f = m in
-    let r = done_ready (answered (goal.at.fill_one-requires-in-Is c).After-fill_answer) m.in-Is.is in record { width = f.requires; factor_value = r.0; factor_in_bounds = r.1.1.0 }
+    let r = done_ready (answered (goal.at.fill_one-requires-in-Is c).After-fill_answer) c.in-Is.is in record { width = c.requires; factor_value = r.0; factor_in_bounds = r.1.1.0 }
 
 pub fill_one-requires-in-Is-2 : goal.fill_one-requires-in-Is-2
 fill_one-requires-in-Is-2 c =
-    let m = c in
-    let f = m in
-    let r = done_ready (answered (goal.at.fill_one-requires-in-Is-2 c).After-fill_answer) m.in-Is.is in record { width = f.requires; factor_value = r.0; factor_in_bounds = r.1.1.1.0 }
+    let r = done_ready (answered (goal.at.fill_one-requires-in-Is-2 c).After-fill_answer) c.in-Is.is in record { width = c.requires; factor_value = r.0; factor_in_bounds = r.1.1.1.0 }
 
 pub returns-in-Refused : goal.returns-in-Refused
 returns-in-Refused c =
@@ -38,13 +33,10 @@ returns-in-Refused c =
 
 pub returns-in-Is : goal.returns-in-Is
 returns-in-Is c =
-    let p = c in
-    let o = p in
-    let m = o in
     let h = answered (goal.at.returns-in-Is c).After-fill_answer in
-    let q = m.in-Is.is in record {
+    let q = c.in-Is.is in record {
       answer = done_says h q;
-      out = (rw m.new-none.ensures at o.fill_one.ensures) ∙ done_fills h q _ _;
-      out1 = p.fill_one-in-Is.ensures ∙ done_fills h q _ _;
+      out = (rw c.new-none.ensures at c.fill_one.ensures) ∙ done_fills h q _ _;
+      out1 = c.fill_one-in-Is.ensures ∙ done_fills h q _ _;
       out2 = c.fill_one-in-Is-2.ensures ∙ done_fills h q _ _;
     }

@@ -16,21 +16,17 @@ plan_of-p-requires c = record { width = c.requires; factor_value = (judged_open 
 
 pub overflow_mul-p : goal.overflow_mul-p
 overflow_mul-p c =
-    let s = c in
-    let r = judged_open (judged (goal.at.overflow_mul-p c).After-stream_outcome) s.in-Done.is in
-    omega (arith, (open_sizes s.requires r).steps-few, c.plan_of-p.ensures.steps)
+    let r = judged_open (judged (goal.at.overflow_mul-p c).After-stream_outcome) c.in-Done.is in
+    omega (arith, (open_sizes c.requires r).steps-few, c.plan_of-p.ensures.steps)
 
 pub returns-then-room-p : goal.returns-then-room-p
 returns-then-room-p c =
-    let s = c in
-    fill_short (judged (goal.at.returns-then-room-p c).After-stream_outcome) s.in-Done.is _ (omega (arith, c.plan_of-p.ensures.steps))
+    fill_short (judged (goal.at.returns-then-room-p c).After-stream_outcome) c.in-Done.is _ (omega (arith, c.plan_of-p.ensures.steps))
 
 pub returns-in-Refused : goal.returns-in-Refused
 returns-in-Refused c = fill_refused (judged (goal.at.returns-in-Refused c).After-stream_outcome) c.in-Refused.is _
 
 pub returns-else-room-p : goal.returns-else-room-p
 returns-else-room-p c =
-    let p = c in
-    let s = p in
-    let n = p.plan_of-p.ensures in
-    fill_fits (judged (goal.at.returns-else-room-p c).After-stream_outcome) s.in-Done.is _ _ _ (omega (arith, n.steps)) n.steps (c.new.ensures ∙ n.padding)
+    let n = c.plan_of-p.ensures in
+    fill_fits (judged (goal.at.returns-else-room-p c).After-stream_outcome) c.in-Done.is _ _ _ (omega (arith, n.steps)) n.steps (c.new.ensures ∙ n.padding)

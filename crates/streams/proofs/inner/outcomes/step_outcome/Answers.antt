@@ -14,13 +14,11 @@ plan_of-p-requires c = record { width = c.requires; factor_value = (judged_open 
 
 pub returns-then-p-j : goal.returns-then-p-j
 returns-then-p-j c =
-    let s = c in
-    step_late (judged (goal.at.returns-then-p-j c).After-stream_outcome) s.in-Done.is _ (omega (arith, c.plan_of-p.ensures.steps))
+    step_late (judged (goal.at.returns-then-p-j c).After-stream_outcome) c.in-Done.is _ (omega (arith, c.plan_of-p.ensures.steps))
 
 pub returns-in-Refused : goal.returns-in-Refused
 returns-in-Refused c = step_refused (judged (goal.at.returns-in-Refused c).After-stream_outcome) c.in-Refused.is _
 
 pub returns-else-p-j : goal.returns-else-p-j
 returns-else-p-j c =
-    let s = c in
-    step_within (judged (goal.at.returns-else-p-j c).After-stream_outcome) s.in-Done.is _ (omega (arith, c.plan_of-p.ensures.steps))
+    step_within (judged (goal.at.returns-else-p-j c).After-stream_outcome) c.in-Done.is _ (omega (arith, c.plan_of-p.ensures.steps))

@@ -22,5 +22,4 @@ step_lanes-delayed-requires c = record { width = c.requires; j_value = plain (go
 pub returns : goal.returns
 unfolding step_lanes
 returns c =
-    let s = c in
-    let o = s.step_outcome-outcome.ensures in record { outcome = o; lanes = rw (← o) (rw s.new-none.ensures at c.step_lanes-lanes.ensures); delayed = rw (← o) c.step_lanes-delayed.ensures }
+    let o = c.step_outcome-outcome.ensures in record { outcome = o; lanes = rw (← o) (rw c.new-none.ensures at c.step_lanes-lanes.ensures); delayed = rw (← o) c.step_lanes-delayed.ensures }

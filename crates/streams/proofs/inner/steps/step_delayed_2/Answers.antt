@@ -25,10 +25,9 @@ step_lanes-far-requires c = record { width = c.requires; j_value = plain (goal.a
 pub returns : goal.returns
 unfolding step_lanes
 returns c =
-    let s = c in
-    let o = s.step_outcome-outcome.ensures in record {
+    let o = c.step_outcome-outcome.ensures in record {
       outcome = o;
-      lanes = rw (← o) (rw s.new-none.ensures at c.step_lanes-lanes.ensures);
+      lanes = rw (← o) (rw c.new-none.ensures at c.step_lanes-lanes.ensures);
       first = rw (← o) c.step_lanes-near.ensures;
       second = rw (← o) c.step_lanes-far.ensures;
     }

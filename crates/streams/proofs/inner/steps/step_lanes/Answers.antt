@@ -12,17 +12,15 @@ opened : (c : In-Done)
     → let a = c.args in
     Open a.w a.bytes.now a.offset.0 a.len.0 a.context.0 a.factor 0 0 × (a.j < steps a.w a.len.0 a.context.0 a.factor)
 opened c =
-    let s = c in
-    let a = s.args in
-    step_open a.w a.bytes.now a.offset.0 a.len.0 a.context.0 a.factor 0 0 a.j (s.requires.j_value c.in-Done.is)
+    let a = c.args in
+    step_open a.w a.bytes.now a.offset.0 a.len.0 a.context.0 a.factor 0 0 a.j (c.requires.j_value c.in-Done.is)
 
 pub plan_of-p-requires : goal.plan_of-p-requires
 plan_of-p-requires c = record { width = c.requires.width; factor_value = (opened c).0.shape }
 
 pub lanes_at-requires : goal.lanes_at-requires
 lanes_at-requires c =
-    let t = c in
-    let W = t.requires.width in
+    let W = c.requires.width in
     let o = opened (goal.at.lanes_at-requires c).In-Done in
     let z = open_sizes W o.0 in record {
       width = W;
@@ -35,6 +33,5 @@ returns-in-Refused c = rw c.in-Refused.is
 
 pub returns-in-Done : goal.returns-in-Done
 returns-in-Done c =
-    let p = c in
     c.lanes_at.ensures
-    ∙ rw (c.count.ensures, c.count-in-Done.ensures, c.count-in-Done-2.ensures, p.plan_of-p.ensures.lane, p.in-Done.is)
+    ∙ rw (c.count.ensures, c.count-in-Done.ensures, c.count-in-Done-2.ensures, c.plan_of-p.ensures.lane, c.in-Done.is)

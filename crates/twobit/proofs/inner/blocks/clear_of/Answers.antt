@@ -56,7 +56,8 @@ pub loop-j-preserved-then-from-to : goal.loop-j-preserved-then-from-to
 loop-j-preserved-then-from-to c = (
   omega (arith, c.loop-j-test.true),
   omega (arith, c.loop-j.invariant.1),
-  clear-hit (first (goal.at.loop-j-preserved-then-from-to c).After-block_at-b) (file_blocks (goal.at.loop-j-preserved-then-from-to c).Start) c.loop-j.j c.args.n (omega (arith, c.loop-j.invariant.0)) c.loop-j.invariant.1
+  clear-hit (first (goal.at.loop-j-preserved-then-from-to c).After-block_at-b) (file_blocks (goal.at.loop-j-preserved-then-from-to c).Start) c.loop-j.j c.args.n
+      (omega (arith, c.loop-j.invariant.0)) c.loop-j.invariant.1
       (omega (arith, c.if-from-to.true, from_is (goal.at.loop-j-preserved-then-from-to c).Joined-a-b, to_is (goal.at.loop-j-preserved-then-from-to c).Joined-a-b-2)),
 )
 
@@ -67,7 +68,8 @@ pub loop-j-preserved : goal.loop-j-preserved
 loop-j-preserved c = (
   omega (arith, c.loop-j-test.true),
   omega (arith, c.loop-j.invariant.1),
-  clear-miss (first (goal.at.loop-j-preserved c).After-block_at-b) (file_blocks (goal.at.loop-j-preserved c).Start) c.loop-j.j c.args.n (omega (arith, c.loop-j.invariant.0)) c.loop-j.invariant.1 c.loop-j.clear
+  clear-miss (first (goal.at.loop-j-preserved c).After-block_at-b) (file_blocks (goal.at.loop-j-preserved c).Start) c.loop-j.j c.args.n (omega (arith, c.loop-j.invariant.0))
+      c.loop-j.invariant.1 c.loop-j.clear
       (omega (arith, c.if-from-to.false, from_is (goal.at.loop-j-preserved c).Joined-a-b, to_is (goal.at.loop-j-preserved c).Joined-a-b-2)) c.loop-j.invariant.2,
 )
 

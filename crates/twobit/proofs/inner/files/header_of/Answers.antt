@@ -51,4 +51,5 @@ returns c =
     let f = c.args.file.now in
     let b = big_is (goal.at.returns c).After-number_at-big in
     header_good f (eqb c.number_at-big.result signature) c.number_at-3.result c.if-file-lt-HEADER.false (signed_is (goal.at.returns c).Joined-not-big)
-    (ap (λ (n : ℕ). eqb n 0) (version (goal.at.returns c).After-number_at-2) ∙ eq-eqb _ _ c.if-number_at-ne-VERSION.false) (sym b) (c.number_at-3.ensures ∙ ap (λ (t : Bool). number_at t 4 f 8) (sym b))
+    (ap (λ (n : ℕ). eqb n 0) (version (goal.at.returns c).After-number_at-2) ∙ eq-eqb _ _ c.if-number_at-ne-VERSION.false) (sym b) (c.number_at-3.ensures
+    ∙ ap (λ (t : Bool). number_at t 4 f 8) (sym b))

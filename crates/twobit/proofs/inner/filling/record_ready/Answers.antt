@@ -39,13 +39,17 @@ found c = sym c.record_at.ensures ∙ ap parts_say c.in-Is-record_at.is
 pub returns-then-bad_store : goal.returns-then-bad_store
 returns-then-bad_store c =
     let a = c.args in
-    ready_bases a.file.now a.r a.base_room a.flag_room (passed_1 (goal.at.returns-then-bad_store c).Else-too_long) (passed_2 (goal.at.returns-then-bad_store c).Else-too_long-2) c.in-Is.big c.in-Is.count (headed (goal.at.returns-then-bad_store c).In-Is) (places (goal.at.returns-then-bad_store c).In-Is-record_at) (found (goal.at.returns-then-bad_store c).In-Is-record_at)
+    ready_bases a.file.now a.r a.base_room a.flag_room (passed_1 (goal.at.returns-then-bad_store c).Else-too_long) (passed_2 (goal.at.returns-then-bad_store c).Else-too_long-2)
+    c.in-Is.big c.in-Is.count (headed (goal.at.returns-then-bad_store c).In-Is) (places (goal.at.returns-then-bad_store c).In-Is-record_at)
+    (found (goal.at.returns-then-bad_store c).In-Is-record_at)
     c.new.result.0 c.new.ensures (sym c.if-bad_store.true ∙ c.bad_store.ensures)
 
 pub returns-then-bad_store-2 : goal.returns-then-bad_store-2
 returns-then-bad_store-2 c =
     let a = c.args in
-    ready_flags a.file.now a.r a.base_room a.flag_room (passed_1 (goal.at.returns-then-bad_store-2 c).Else-too_long) (passed_2 (goal.at.returns-then-bad_store-2 c).Else-too_long-2) c.in-Is.big c.in-Is.count (headed (goal.at.returns-then-bad_store-2 c).In-Is) (places (goal.at.returns-then-bad_store-2 c).In-Is-record_at) (found (goal.at.returns-then-bad_store-2 c).In-Is-record_at)
+    ready_flags a.file.now a.r a.base_room a.flag_room (passed_1 (goal.at.returns-then-bad_store-2 c).Else-too_long) (passed_2 (goal.at.returns-then-bad_store-2 c).Else-too_long-2)
+    c.in-Is.big c.in-Is.count (headed (goal.at.returns-then-bad_store-2 c).In-Is) (places (goal.at.returns-then-bad_store-2 c).In-Is-record_at)
+    (found (goal.at.returns-then-bad_store-2 c).In-Is-record_at)
     c.new.result.0 c.new.ensures (sym c.if-bad_store.false ∙ c.bad_store.ensures)
     c.new-in-Is-record_at.result.0 c.new-in-Is-record_at.ensures (sym c.if-bad_store-2.true ∙ c.bad_store-in-Is-record_at.ensures)
 
@@ -58,12 +62,15 @@ returns-in-Bad c =
 pub returns-in-Bad-record_at : goal.returns-in-Bad-record_at
 returns-in-Bad-record_at c =
     let a = c.args in
-    ready_record a.file.now a.r a.base_room a.flag_room (passed_1 (goal.at.returns-in-Bad-record_at c).Else-too_long) (passed_2 (goal.at.returns-in-Bad-record_at c).Else-too_long-2) c.in-Is.big c.in-Is.count (headed (goal.at.returns-in-Bad-record_at c).In-Is)
+    ready_record a.file.now a.r a.base_room a.flag_room (passed_1 (goal.at.returns-in-Bad-record_at c).Else-too_long)
+    (passed_2 (goal.at.returns-in-Bad-record_at c).Else-too_long-2) c.in-Is.big c.in-Is.count (headed (goal.at.returns-in-Bad-record_at c).In-Is)
     (sym c.record_at.ensures ∙ ap parts_say c.in-Bad-record_at.is)
 
 pub returns-else-bad_store-2 : goal.returns-else-bad_store-2
 returns-else-bad_store-2 c =
     let a = c.args in
-    ready_done a.file.now a.r a.base_room a.flag_room (passed_1 (goal.at.returns-else-bad_store-2 c).Else-too_long) (passed_2 (goal.at.returns-else-bad_store-2 c).Else-too_long-2) c.in-Is.big c.in-Is.count (headed (goal.at.returns-else-bad_store-2 c).In-Is) (places (goal.at.returns-else-bad_store-2 c).In-Is-record_at) (found (goal.at.returns-else-bad_store-2 c).In-Is-record_at)
+    ready_done a.file.now a.r a.base_room a.flag_room (passed_1 (goal.at.returns-else-bad_store-2 c).Else-too_long) (passed_2 (goal.at.returns-else-bad_store-2 c).Else-too_long-2)
+    c.in-Is.big c.in-Is.count (headed (goal.at.returns-else-bad_store-2 c).In-Is) (places (goal.at.returns-else-bad_store-2 c).In-Is-record_at)
+    (found (goal.at.returns-else-bad_store-2 c).In-Is-record_at)
     c.new.result.0 c.new.ensures (sym c.if-bad_store.false ∙ c.bad_store.ensures)
     c.new-in-Is-record_at.result.0 c.new-in-Is-record_at.ensures (sym c.if-bad_store-2.false ∙ c.bad_store-in-Is-record_at.ensures)

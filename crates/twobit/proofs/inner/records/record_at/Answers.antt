@@ -30,27 +30,40 @@ all_inside-requires c =
 pub returns-then-not-all_inside : goal.returns-then-not-all_inside
 returns-then-not-all_inside c =
     let a = c.args in
-    record_blocks a.big a.file.now a.r (places (goal.at.returns-then-not-all_inside c).In-Is) (parted (goal.at.returns-then-not-all_inside c).In-Is) (sym c.all_inside.ensures ∙ c.if-not-all_inside.true)
+    record_blocks a.big a.file.now a.r (places (goal.at.returns-then-not-all_inside c).In-Is) (parted (goal.at.returns-then-not-all_inside c).In-Is) (sym c.all_inside.ensures
+    ∙ c.if-not-all_inside.true)
 
 pub all_inside-requires-in-Is : goal.all_inside-requires-in-Is
 all_inside-requires-in-Is c =
-    let a = c.args in
-    (masks_count a.big a.file.now a.r (places (goal.at.all_inside-requires-in-Is c).In-Is) (parted (goal.at.all_inside-requires-in-Is c).In-Is), masks_within a.big a.file.now a.r (places (goal.at.all_inside-requires-in-Is c).In-Is) (parted (goal.at.all_inside-requires-in-Is c).In-Is))
+    let a = c.args in (
+      masks_count a.big a.file.now a.r (places (goal.at.all_inside-requires-in-Is c).In-Is) (parted (goal.at.all_inside-requires-in-Is c).In-Is),
+      masks_within a.big a.file.now a.r (places (goal.at.all_inside-requires-in-Is c).In-Is) (parted (goal.at.all_inside-requires-in-Is c).In-Is),
+    )
 
 pub returns-then-not-all_inside-2 : goal.returns-then-not-all_inside-2
 returns-then-not-all_inside-2 c =
     let a = c.args in
-    record_masks a.big a.file.now a.r (places (goal.at.returns-then-not-all_inside-2 c).In-Is) (parted (goal.at.returns-then-not-all_inside-2 c).In-Is) (sym c.all_inside-in-Is.ensures ∙ c.if-not-all_inside-2.true)
+    record_masks a.big a.file.now a.r (places (goal.at.returns-then-not-all_inside-2 c).In-Is) (parted (goal.at.returns-then-not-all_inside-2 c).In-Is)
+    (sym c.all_inside-in-Is.ensures ∙ c.if-not-all_inside-2.true)
 
 pub overflow_add-r-in-Is : goal.overflow_add-r-in-Is
 overflow_add-r-in-Is c =
     let a = c.args in
-    record { fits = omega (arith, blocks-within a.big a.file.now a.r (places (goal.at.overflow_add-r-in-Is c).In-Is) (parted (goal.at.overflow_add-r-in-Is c).In-Is), blocks-front a.big a.file.now (a.r + 4), c.well_formed) }
+    record {
+      fits = omega (
+        arith,
+        blocks-within a.big a.file.now a.r (places (goal.at.overflow_add-r-in-Is c).In-Is) (parted (goal.at.overflow_add-r-in-Is c).In-Is),
+        blocks-front a.big a.file.now (a.r + 4),
+        c.well_formed,
+      );
+    }
 
 pub all_apart-requires : goal.all_apart-requires
 all_apart-requires c =
-    let a = c.args in
-    (blocks-count a.big a.file.now a.r (places (goal.at.all_apart-requires c).In-Is) (parted (goal.at.all_apart-requires c).In-Is), blocks-within a.big a.file.now a.r (places (goal.at.all_apart-requires c).In-Is) (parted (goal.at.all_apart-requires c).In-Is))
+    let a = c.args in (
+      blocks-count a.big a.file.now a.r (places (goal.at.all_apart-requires c).In-Is) (parted (goal.at.all_apart-requires c).In-Is),
+      blocks-within a.big a.file.now a.r (places (goal.at.all_apart-requires c).In-Is) (parted (goal.at.all_apart-requires c).In-Is),
+    )
 
 pub returns-then-not-all_apart : goal.returns-then-not-all_apart
 returns-then-not-all_apart c =

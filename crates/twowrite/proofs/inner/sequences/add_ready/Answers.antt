@@ -41,7 +41,8 @@ none_2 : (c : Else-too_long-2) → None (take 2 (tests (goal.at.Else-too_long-2 
 none_2 c = none_next 1 (tests (goal.at.Else-too_long-2 c).Start) (none_1 (goal.at.Else-too_long-2 c).Else-too_long) (sym c.too_long-2.ensures ∙ c.if-too_long-2.false, tt)
 
 pub returns-then-too_long-2 : goal.returns-then-too_long-2
-returns-then-too_long-2 c = answer-next 1 (tests (goal.at.returns-then-too_long-2 c).Start) TooLong (count (goal.at.returns-then-too_long-2 c).Start) 0 (none_1 (goal.at.returns-then-too_long-2 c).Else-too_long) refl (sym c.too_long-2.ensures ∙ c.if-too_long-2.true)
+returns-then-too_long-2 c = answer-next 1 (tests (goal.at.returns-then-too_long-2 c).Start) TooLong (count (goal.at.returns-then-too_long-2 c).Start) 0
+    (none_1 (goal.at.returns-then-too_long-2 c).Else-too_long) refl (sym c.too_long-2.ensures ∙ c.if-too_long-2.true)
 
 pub bad_view-requires : goal.bad_view-requires
 bad_view-requires c = record { width = width_2; n_bound = ltb-false _ _ (none_2 c).0 }
@@ -50,7 +51,8 @@ none_3 : (c : Else-bad_view) → None (take 3 (tests (goal.at.Else-bad_view c).S
 none_3 c = none_next 2 (tests (goal.at.Else-bad_view c).Start) (none_2 (goal.at.Else-bad_view c).Else-too_long-2) (sym c.bad_view.ensures ∙ c.if-bad_view.false, tt)
 
 pub returns-then-bad_view : goal.returns-then-bad_view
-returns-then-bad_view c = answer-next 2 (tests (goal.at.returns-then-bad_view c).Start) BadView (count (goal.at.returns-then-bad_view c).Start) 0 (none_2 (goal.at.returns-then-bad_view c).Else-too_long-2) refl (sym c.bad_view.ensures ∙ c.if-bad_view.true)
+returns-then-bad_view c = answer-next 2 (tests (goal.at.returns-then-bad_view c).Start) BadView (count (goal.at.returns-then-bad_view c).Start) 0
+    (none_2 (goal.at.returns-then-bad_view c).Else-too_long-2) refl (sym c.bad_view.ensures ∙ c.if-bad_view.true)
 
 pub bad_view-requires-2 : goal.bad_view-requires-2
 bad_view-requires-2 c = record { width = width_1; n_bound = ltb-false _ _ (none_3 c).1.0 }
@@ -59,7 +61,8 @@ none_4 : (c : Else-bad_view-2) → None (take 4 (tests (goal.at.Else-bad_view-2 
 none_4 c = none_next 3 (tests (goal.at.Else-bad_view-2 c).Start) (none_3 (goal.at.Else-bad_view-2 c).Else-bad_view) (sym c.bad_view-2.ensures ∙ c.if-bad_view-2.false, tt)
 
 pub returns-then-bad_view-2 : goal.returns-then-bad_view-2
-returns-then-bad_view-2 c = answer-next 3 (tests (goal.at.returns-then-bad_view-2 c).Start) BadView (count (goal.at.returns-then-bad_view-2 c).Start) 0 (none_3 (goal.at.returns-then-bad_view-2 c).Else-bad_view) refl (sym c.bad_view-2.ensures ∙ c.if-bad_view-2.true)
+returns-then-bad_view-2 c = answer-next 3 (tests (goal.at.returns-then-bad_view-2 c).Start) BadView (count (goal.at.returns-then-bad_view-2 c).Start) 0
+    (none_3 (goal.at.returns-then-bad_view-2 c).Else-bad_view) refl (sym c.bad_view-2.ensures ∙ c.if-bad_view-2.true)
 
 -- both views have the same length
 same : (c : Else-count) → (let a = c.args in a.al.0 ≡ a.bl.0)
@@ -77,19 +80,22 @@ none_6 : (c : Else-name-gt255) → None (take 6 (tests (goal.at.Else-name-gt255 
 none_6 c = none_next 5 (tests (goal.at.Else-name-gt255 c).Start) (none_5 (goal.at.Else-name-gt255 c).Else-count) (le-ltb 255 c.args.name (omega arith), tt)
 
 pub returns-then-name-gt255 : goal.returns-then-name-gt255
-returns-then-name-gt255 c = answer-next 5 (tests (goal.at.returns-then-name-gt255 c).Start) BadRange (count (goal.at.returns-then-name-gt255 c).Start) 0 (none_5 (goal.at.returns-then-name-gt255 c).Else-count) refl (lt-ltb 255 c.args.name (omega arith))
+returns-then-name-gt255 c = answer-next 5 (tests (goal.at.returns-then-name-gt255 c).Start) BadRange (count (goal.at.returns-then-name-gt255 c).Start) 0
+    (none_5 (goal.at.returns-then-name-gt255 c).Else-count) refl (lt-ltb 255 c.args.name (omega arith))
 
 none_7 : (c : Else-bad_state) → None (take 7 (tests (goal.at.Else-bad_state c).Start))
 none_7 c = none_next 6 (tests (goal.at.Else-bad_state c).Start) (none_6 (goal.at.Else-bad_state c).Else-name-gt255) (sym c.bad_state.ensures ∙ c.if-bad_state.false, tt)
 
 pub returns-then-bad_state : goal.returns-then-bad_state
-returns-then-bad_state c = answer-next 6 (tests (goal.at.returns-then-bad_state c).Start) BadRange (count (goal.at.returns-then-bad_state c).Start) 0 (none_6 (goal.at.returns-then-bad_state c).Else-name-gt255) refl (sym c.bad_state.ensures ∙ c.if-bad_state.true)
+returns-then-bad_state c = answer-next 6 (tests (goal.at.returns-then-bad_state c).Start) BadRange (count (goal.at.returns-then-bad_state c).Start) 0
+    (none_6 (goal.at.returns-then-bad_state c).Else-name-gt255) refl (sym c.bad_state.ensures ∙ c.if-bad_state.true)
 
 none_8 : (c : Else-far_record) → None (take 8 (tests (goal.at.Else-far_record c).Start))
 none_8 c = none_next 7 (tests (goal.at.Else-far_record c).Start) (none_7 (goal.at.Else-far_record c).Else-bad_state) (sym c.far_record.ensures ∙ c.if-far_record.false, tt)
 
 pub returns-then-far_record : goal.returns-then-far_record
-returns-then-far_record c = answer-next 7 (tests (goal.at.returns-then-far_record c).Start) BadRange (count (goal.at.returns-then-far_record c).Start) 0 (none_7 (goal.at.returns-then-far_record c).Else-bad_state) refl (sym c.far_record.ensures ∙ c.if-far_record.true)
+returns-then-far_record c = answer-next 7 (tests (goal.at.returns-then-far_record c).Start) BadRange (count (goal.at.returns-then-far_record c).Start) 0
+    (none_7 (goal.at.returns-then-far_record c).Else-bad_state) refl (sym c.far_record.ensures ∙ c.if-far_record.true)
 
 room : (c : Else-far_record) → (let a = c.args in Room 1 (length a.flags.now) a.bo.0 a.bl.0)
 room c =
@@ -134,7 +140,8 @@ overflow_add-size-2 c =
 
 -- the record ends beyond the room
 short : (c : After-count-5)
-    → (let a = c.args in a.room < a.place + (16 + 8 * c.count_runs-count.result + c.count-5.result) → answer (Refused NoRoom) 0 0 ≡ answer (first (tests (goal.at.After-count-5 c).Start)) (count (goal.at.After-count-5 c).Start) 0)
+    → (let a = c.args in a.room < a.place + (16 + 8 * c.count_runs-count.result + c.count-5.result)
+    → answer (Refused NoRoom) 0 0 ≡ answer (first (tests (goal.at.After-count-5 c).Start)) (count (goal.at.After-count-5 c).Start) 0)
 short c l =
     let t = (goal.at.After-count-5 c).Start in
     answer-next 8 (tests t) NoRoom (count t) 0 (none_8 (goal.at.After-count-5 c).Else-far_record) refl (lt-ltb t.args.room _ (subst (λ (x : ℕ). t.args.room < t.args.place + x) (size c) l))

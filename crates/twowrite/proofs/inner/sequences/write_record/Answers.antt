@@ -50,7 +50,10 @@ long-2 c =
 
 pub write_runs-requires : goal.write_runs-requires
 write_runs-requires c =
-    record { len_value = c.requires.len_value_2; count_value = (c.requires.count_value.0, omega (arith, long-2 (goal.at.write_runs-requires c).After-put_number-2, room (goal.at.write_runs-requires c).Start)) }
+    record {
+      len_value = c.requires.len_value_2;
+      count_value = (c.requires.count_value.0, omega (arith, long-2 (goal.at.write_runs-requires c).After-put_number-2, room (goal.at.write_runs-requires c).Start));
+    }
 
 abbrev blocks : Start → List ℕ
 blocks s = let rs = runs (chars 1 s.args.flags.now s.args.bo s.args.len) in each false (λ r. r.start) rs ++ each false (λ r. r.size) rs
@@ -83,7 +86,11 @@ overflow_add-masks-3 c =
 
 pub write_dna-requires : goal.write_dna-requires
 write_dna-requires c =
-    record { len_value = c.requires.len_value; len_value_2 = c.requires.len_value_2; len_in_bounds = omega (arith, long-5 (goal.at.write_dna-requires c).After-put_number-4, room (goal.at.write_dna-requires c).Start) }
+    record {
+      len_value = c.requires.len_value;
+      len_value_2 = c.requires.len_value_2;
+      len_in_bounds = omega (arith, long-5 (goal.at.write_dna-requires c).After-put_number-4, room (goal.at.write_dna-requires c).Start);
+    }
 
 pub returns : goal.returns
 returns c =

@@ -98,7 +98,8 @@ overflow_add-sizes-in-loop-i c = omega (arith, left (goal.at.overflow_add-sizes-
 pub put_number-requires-in-loop-i : goal.put_number-requires-in-loop-i
 put_number-requires-in-loop-i c =
     let l : length c.put_number.new.out ≡ length (out (goal.at.put_number-requires-in-loop-i c).After-run_end-stop) =
-    sets-length (out (goal.at.put_number-requires-in-loop-i c).After-run_end-stop) c.put_number.new.out (c.args.at + 4 * i (goal.at.put_number-requires-in-loop-i c).After-run_end-stop) (spelled false 4 (c.run_end-start.result - c.args.bo)) c.put_number.ensures in
+    sets-length (out (goal.at.put_number-requires-in-loop-i c).After-run_end-stop) c.put_number.new.out
+    (c.args.at + 4 * i (goal.at.put_number-requires-in-loop-i c).After-run_end-stop) (spelled false 4 (c.run_end-start.result - c.args.bo)) c.put_number.ensures in
     omega (arith, left (goal.at.put_number-requires-in-loop-i c).After-run_end-stop, c.requires.count_value.1, long (goal.at.put_number-requires-in-loop-i c).After-run_end-stop, l)
 
 pub loop-i-smaller : goal.loop-i-smaller
@@ -108,7 +109,9 @@ pub loop-i-preserved : goal.loop-i-preserved
 loop-i-preserved c =
     let a = c.args in (
       omega (arith, left (goal.at.loop-i-preserved c).After-run_end-stop),
-      written_next a.flags.now a.bo a.len a.out.now a.at (mid (goal.at.loop-i-preserved c).After-run_end-stop) (out (goal.at.loop-i-preserved c).After-run_end-stop) (p (goal.at.loop-i-preserved c).After-run_end-stop) (i (goal.at.loop-i-preserved c).After-run_end-stop) (w (goal.at.loop-i-preserved c).After-run_end-stop) c.run_end-start.result c.run_end-stop.result (next (goal.at.loop-i-preserved c).After-run_end-stop)
+      written_next a.flags.now a.bo a.len a.out.now a.at (mid (goal.at.loop-i-preserved c).After-run_end-stop) (out (goal.at.loop-i-preserved c).After-run_end-stop)
+          (p (goal.at.loop-i-preserved c).After-run_end-stop) (i (goal.at.loop-i-preserved c).After-run_end-stop) (w (goal.at.loop-i-preserved c).After-run_end-stop)
+          c.run_end-start.result c.run_end-stop.result (next (goal.at.loop-i-preserved c).After-run_end-stop)
           (omega (arith, left (goal.at.loop-i-preserved c).After-run_end-stop)) c.put_number.ensures c.put_number-in-loop-i.ensures,
     )
 

@@ -41,7 +41,8 @@ module _ (c : After-bad_lane) where
   at_lane = sym (rw (c.wide-in-loop-l-2.ensures, c.wide-in-loop-l.ensures, c.wide.ensures) at c.bad_lane.ensures)
 
 pub returns-then-bad_lane : goal.returns-then-bad_lane
-returns-then-bad_lane c = sym (any_true 8 c.loop-l.l (bad (goal.at.returns-then-bad_lane c).After-bad_lane) (omega arith) (at_lane (goal.at.returns-then-bad_lane c).After-bad_lane ∙ c.if-bad_lane.true))
+returns-then-bad_lane c = sym (any_true 8 c.loop-l.l (bad (goal.at.returns-then-bad_lane c).After-bad_lane) (omega arith) (at_lane (goal.at.returns-then-bad_lane c).After-bad_lane
+    ∙ c.if-bad_lane.true))
 
 pub overflow_add-l : goal.overflow_add-l
 overflow_add-l c = omega arith
@@ -50,8 +51,11 @@ pub loop-l-smaller : goal.loop-l-smaller
 loop-l-smaller c = omega arith
 
 pub loop-l-preserved : goal.loop-l-preserved
-loop-l-preserved c =
-    (omega arith, any_step c.loop-l.l (bad (goal.at.loop-l-preserved c).After-bad_lane) ∙ ap₂ (λ (x y : Bool). x || y) c.loop-l.invariant.1 (at_lane (goal.at.loop-l-preserved c).After-bad_lane ∙ c.if-bad_lane.false))
+loop-l-preserved c = (
+  omega arith,
+  any_step c.loop-l.l (bad (goal.at.loop-l-preserved c).After-bad_lane)
+      ∙ ap₂ (λ (x y : Bool). x || y) c.loop-l.invariant.1 (at_lane (goal.at.loop-l-preserved c).After-bad_lane ∙ c.if-bad_lane.false),
+)
 
 pub returns : goal.returns
 returns c =

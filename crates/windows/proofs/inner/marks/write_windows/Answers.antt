@@ -32,12 +32,10 @@ loop-t-smaller c = omega arith
 
 pub loop-t-preserved : goal.loop-t-preserved
 loop-t-preserved c =
-    let f = c in
-    let m = f in
-    let l = m.loop-t in
-    let a = m.args in
-    let next = turns_more a.k a.skip a.j l.t a.words l.invariant.2 (omega arith) m.mark-next.ensures f.write_from.ensures in
-    (omega arith, f.write_from.ensures.long ∙ l.invariant.1, next)
+    let l = c.loop-t in
+    let a = c.args in
+    let next = turns_more a.k a.skip a.j l.t a.words l.invariant.2 (omega arith) c.mark-next.ensures c.write_from.ensures in
+    (omega arith, c.write_from.ensures.long ∙ l.invariant.1, next)
 
 pub shape_of-out : goal.shape_of-out
 shape_of-out c = c.loop-t.invariant.1

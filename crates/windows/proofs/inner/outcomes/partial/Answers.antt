@@ -12,12 +12,10 @@ overflow_sub-n c = omega (arith, c.count-n.ensures, c.requires)
 
 pub returns-then-skip-n : goal.returns-then-skip-n
 returns-then-skip-n c =
-    let e = c in
-    let a = e.args in
+    let a = c.args in
     rw (lt-ltb 0 a.steps (omega arith), lt-ltb a.skip (a.k.0 - 1) (omega (arith, c.count-n.ensures)))
 
 pub returns : goal.returns
 returns c =
-    let n = c in
-    let a = n.args in
-    rw (c.count.ensures, n.count-n.ensures, lt-ltb 0 a.steps (omega arith), le-ltb a.skip (a.k.0 - 1) (omega (arith, n.count-n.ensures)))
+    let a = c.args in
+    rw (c.count.ensures, c.count-n.ensures, lt-ltb 0 a.steps (omega arith), le-ltb a.skip (a.k.0 - 1) (omega (arith, c.count-n.ensures)))

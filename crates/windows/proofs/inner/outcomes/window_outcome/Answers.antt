@@ -29,22 +29,20 @@ module _ (c : In-Done) where
 
 pub returns-then-bad_shape : goal.returns-then-bad_shape
 returns-then-bad_shape c =
-    let k = c in first_behind (tests (goal.at.returns-then-bad_shape c).Start) (shape (goal.at.returns-then-bad_shape c).Start ∷ window (goal.at.returns-then-bad_shape c).Start ∷ []) (done (goal.at.returns-then-bad_shape c).In-Done) 0 (sym c.bad_shape.ensures ∙ c.if-bad_shape.true)
+    first_behind (tests (goal.at.returns-then-bad_shape c).Start) (shape (goal.at.returns-then-bad_shape c).Start ∷ window (goal.at.returns-then-bad_shape c).Start ∷ [])
+    (done (goal.at.returns-then-bad_shape c).In-Done) 0 (sym c.bad_shape.ensures ∙ c.if-bad_shape.true)
 
 pub returns-then-bad_window : goal.returns-then-bad_window
 returns-then-bad_window c =
-    let t = c in
-    let k = t in
-    first_behind (tests (goal.at.returns-then-bad_window c).Start) (shape (goal.at.returns-then-bad_window c).Start ∷ window (goal.at.returns-then-bad_window c).Start ∷ []) (done (goal.at.returns-then-bad_window c).In-Done) 1 (sym t.bad_shape.ensures ∙ t.if-bad_shape.false, sym c.bad_window.ensures ∙ c.if-bad_window.true)
+    first_behind (tests (goal.at.returns-then-bad_window c).Start) (shape (goal.at.returns-then-bad_window c).Start ∷ window (goal.at.returns-then-bad_window c).Start ∷ [])
+    (done (goal.at.returns-then-bad_window c).In-Done) 1 (sym c.bad_shape.ensures ∙ c.if-bad_shape.false, sym c.bad_window.ensures ∙ c.if-bad_window.true)
 
 pub returns-in-Refused : goal.returns-in-Refused
 returns-in-Refused c =
-    let k = c in
-    let s = k in
-    sym (first_refused (tests (goal.at.returns-in-Refused c).Start) (shape (goal.at.returns-in-Refused c).Start ∷ window (goal.at.returns-in-Refused c).Start ∷ []) c.in-Refused.refusal (sym k.view_outcome.ensures ∙ c.in-Refused.is))
+    sym (first_refused (tests (goal.at.returns-in-Refused c).Start) (shape (goal.at.returns-in-Refused c).Start ∷ window (goal.at.returns-in-Refused c).Start ∷ [])
+    c.in-Refused.refusal (sym c.view_outcome.ensures ∙ c.in-Refused.is))
 
 pub returns-else-bad_window : goal.returns-else-bad_window
 returns-else-bad_window c =
-    let t = c in
-    let k = t in
-    first_behind (tests (goal.at.returns-else-bad_window c).Start) (shape (goal.at.returns-else-bad_window c).Start ∷ window (goal.at.returns-else-bad_window c).Start ∷ []) (done (goal.at.returns-else-bad_window c).In-Done) 2 (sym t.bad_shape.ensures ∙ t.if-bad_shape.false, (sym c.bad_window.ensures ∙ c.if-bad_window.false, tt))
+    first_behind (tests (goal.at.returns-else-bad_window c).Start) (shape (goal.at.returns-else-bad_window c).Start ∷ window (goal.at.returns-else-bad_window c).Start ∷ [])
+    (done (goal.at.returns-else-bad_window c).In-Done) 2 (sym c.bad_shape.ensures ∙ c.if-bad_shape.false, (sym c.bad_window.ensures ∙ c.if-bad_window.false, tt))

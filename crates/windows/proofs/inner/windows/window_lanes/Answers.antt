@@ -37,7 +37,10 @@ module _ (c : After-smaller-count) where
 
 pub write_windows-next-requires : goal.write_windows-next-requires
 write_windows-next-requires c =
-    record { count_bound = (count_most (goal.at.write_windows-next-requires c).After-smaller-count, omega arith, c.requires.n_bound.1); skip_in_bounds = omega (arith, count_right (goal.at.write_windows-next-requires c).After-smaller-count, c.loop-j.invariant.2.long, c.requires.skip_in_bounds) }
+    record {
+      count_bound = (count_most (goal.at.write_windows-next-requires c).After-smaller-count, omega arith, c.requires.n_bound.1);
+      skip_in_bounds = omega (arith, count_right (goal.at.write_windows-next-requires c).After-smaller-count, c.loop-j.invariant.2.long, c.requires.skip_in_bounds);
+    }
 
 pub overflow_add-j : goal.overflow_add-j
 overflow_add-j c = omega (arith, count_most (goal.at.overflow_add-j c).After-smaller-count)

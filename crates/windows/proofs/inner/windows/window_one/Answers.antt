@@ -20,14 +20,14 @@ plan_of-p-requires c = record { width = width_1; factor_value = (opened (goal.at
 
 pub window_lanes-requires : goal.window_lanes-requires
 window_lanes-requires c =
-    let o = c in
-    let s = o in
     let z = sized (goal.at.window_lanes-requires c).Start in
-    let p = o.plan_of-p.ensures in record { len_value = rw (o.count.ensures, c.count-2.ensures) (opened (goal.at.window_lanes-requires c).Start).view; n_bound = (omega arith, omega (arith, (opened (goal.at.window_lanes-requires c).Start).high, c.count-3.ensures), omega arith); skip_in_bounds = omega (arith, s.requires.skip_in_bounds) }
+    let p = c.plan_of-p.ensures in record {
+      len_value = rw (c.count.ensures, c.count-2.ensures) (opened (goal.at.window_lanes-requires c).Start).view;
+      n_bound = (omega arith, omega (arith, (opened (goal.at.window_lanes-requires c).Start).high, c.count-3.ensures), omega arith);
+      skip_in_bounds = omega (arith, c.requires.skip_in_bounds);
+    }
 
 pub returns : goal.returns
 returns c =
-    let e = c in
-    let o = e in
-    let p = o.plan_of-p.ensures in
-    c.window_lanes.ensures ∙ rw (o.count.ensures, e.count-2.ensures, e.count-3.ensures, p.lane, p.steps)
+    let p = c.plan_of-p.ensures in
+    c.window_lanes.ensures ∙ rw (c.count.ensures, c.count-2.ensures, c.count-3.ensures, p.lane, p.steps)

@@ -49,7 +49,8 @@ plan_of-p-requires c = record { width = width_1; factor_value = (right c).shape 
 pub returns-then-p-skip : goal.returns-then-p-skip
 unfolding windows_answer windows_outcome
 returns-then-p-skip c =
-    let e = first_behind (tests (goal.at.returns-then-p-skip c).Start) (own (goal.at.returns-then-p-skip c).Start) (done (goal.at.returns-then-p-skip c).In-Done) 0 (lt-ltb (many (goal.at.returns-then-p-skip c).Start) c.args.skip (omega (arith, c.plan_of-p.ensures.steps))) in
+    let e = first_behind (tests (goal.at.returns-then-p-skip c).Start) (own (goal.at.returns-then-p-skip c).Start) (done (goal.at.returns-then-p-skip c).In-Done) 0
+    (lt-ltb (many (goal.at.returns-then-p-skip c).Start) c.args.skip (omega (arith, c.plan_of-p.ensures.steps))) in
     answer_refused _ BadStream (given (goal.at.returns-then-p-skip c).Start) (0, 0) (sym e)
 
 pub partial-requires : goal.partial-requires
@@ -66,7 +67,8 @@ module _ (c : After-partial) where
 pub returns-then-partial : goal.returns-then-partial
 unfolding windows_answer windows_outcome
 returns-then-partial c =
-    let e = first_behind (tests (goal.at.returns-then-partial c).Start) (own (goal.at.returns-then-partial c).Start) (done (goal.at.returns-then-partial c).In-Done) 1 (skips (goal.at.returns-then-partial c).After-partial, judged (goal.at.returns-then-partial c).After-partial ∙ c.if-partial.true) in
+    let e = first_behind (tests (goal.at.returns-then-partial c).Start) (own (goal.at.returns-then-partial c).Start) (done (goal.at.returns-then-partial c).In-Done) 1
+    (skips (goal.at.returns-then-partial c).After-partial, judged (goal.at.returns-then-partial c).After-partial ∙ c.if-partial.true) in
     answer_refused _ Partial (given (goal.at.returns-then-partial c).Start) (0, 0) (sym e)
 
 pub overflow_mul-left : goal.overflow_mul-left
@@ -81,13 +83,17 @@ returns-then-room-left c =
     let a = c.args in
     let q = c.plan_of-p.ensures.steps in
     let room = lt-ltb a.room (8 * (many (goal.at.returns-then-room-left c).Start - a.skip)) (omega arith) in
-    let e = first_behind (tests (goal.at.returns-then-room-left c).Start) (own (goal.at.returns-then-room-left c).Start) (done (goal.at.returns-then-room-left c).In-Done) 2 (skips (goal.at.returns-then-room-left c).After-partial, (judged (goal.at.returns-then-room-left c).After-partial ∙ c.if-partial.false, room)) in
+    let e = first_behind (tests (goal.at.returns-then-room-left c).Start) (own (goal.at.returns-then-room-left c).Start) (done (goal.at.returns-then-room-left c).In-Done) 2
+    (skips (goal.at.returns-then-room-left c).After-partial, (judged (goal.at.returns-then-room-left c).After-partial ∙ c.if-partial.false, room)) in
     answer_refused _ NoRoom (given (goal.at.returns-then-room-left c).Start) (0, 0) (sym e)
 
 pub returns-in-Refused : goal.returns-in-Refused
 unfolding windows_answer windows_outcome
 returns-in-Refused c =
-    answer_refused _ c.in-Refused.refusal (given (goal.at.returns-in-Refused c).Start) (0, 0) (first_refused (tests (goal.at.returns-in-Refused c).Start) (own (goal.at.returns-in-Refused c).Start) c.in-Refused.refusal (sym c.window_outcome.ensures ∙ c.in-Refused.is))
+    answer_refused _ c.in-Refused.refusal (given (goal.at.returns-in-Refused c).Start) (
+      0,
+      0,
+    ) (first_refused (tests (goal.at.returns-in-Refused c).Start) (own (goal.at.returns-in-Refused c).Start) c.in-Refused.refusal (sym c.window_outcome.ensures ∙ c.in-Refused.is))
 
 pub returns-else-room-left : goal.returns-else-room-left
 unfolding windows_answer windows_outcome
@@ -96,6 +102,7 @@ returns-else-room-left c =
     let p = c.plan_of-p in
     let q = p.ensures.steps in
     let room = le-ltb a.room (8 * (many (goal.at.returns-else-room-left c).Start - a.skip)) (omega arith) in
-    let e = first_behind (tests (goal.at.returns-else-room-left c).Start) (own (goal.at.returns-else-room-left c).Start) (done (goal.at.returns-else-room-left c).In-Done) 3 (skips (goal.at.returns-else-room-left c).After-partial, (judged (goal.at.returns-else-room-left c).After-partial ∙ c.if-partial.false, (room, tt))) in
+    let e = first_behind (tests (goal.at.returns-else-room-left c).Start) (own (goal.at.returns-else-room-left c).Start) (done (goal.at.returns-else-room-left c).In-Done) 3
+    (skips (goal.at.returns-else-room-left c).After-partial, (judged (goal.at.returns-else-room-left c).After-partial ∙ c.if-partial.false, (room, tt))) in
     answer_done _ (p.result.steps - a.skip, c.new.result.0) (given (goal.at.returns-else-room-left c).Start) (0, 0) (sym e)
     (ap₂ (λ (x y : ℕ). (x - a.skip, y)) q (c.new.ensures ∙ p.ensures.padding))

@@ -35,29 +35,33 @@ module _ (c : In-Done) where
 
 pub returns-then-out-n : goal.returns-then-out-n
 unfolding unpack_outcome
-returns-then-out-n c = let k = c in record { outcome = room_short (size (goal.at.returns-then-out-n c).Start) (needed (goal.at.returns-then-out-n c).Start) (omega arith) ∙ sym (first_done (tests (goal.at.returns-then-out-n c).Start) (room (goal.at.returns-then-out-n c).Start) (done (goal.at.returns-then-out-n c).In-Done)); bytes = refl }
+returns-then-out-n c = record {
+  outcome = room_short (size (goal.at.returns-then-out-n c).Start) (needed (goal.at.returns-then-out-n c).Start) (omega arith)
+      ∙ sym (first_done (tests (goal.at.returns-then-out-n c).Start) (room (goal.at.returns-then-out-n c).Start) (done (goal.at.returns-then-out-n c).In-Done));
+  bytes = refl;
+}
 
 pub write_letters-requires : goal.write_letters-requires
 write_letters-requires c =
-    let k = c in
-    let a = k.args in
+    let a = c.args in
     let r = view_accepted 2 (length a.bytes.now) a.offset.0 a.len.0 (done (goal.at.write_letters-requires c).In-Done) in
     (omega arith, omega (arith, r.fits), r.small)
 
 pub returns-in-Refused : goal.returns-in-Refused
 unfolding unpack_outcome
 returns-in-Refused c =
-    let k = c in
-    let s = k in record { outcome = sym (first_refused (tests (goal.at.returns-in-Refused c).Start) (room (goal.at.returns-in-Refused c).Start) c.in-Refused.refusal (sym k.view_outcome.ensures ∙ c.in-Refused.is)); bytes = refl }
+    record {
+      outcome = sym (first_refused (tests (goal.at.returns-in-Refused c).Start) (room (goal.at.returns-in-Refused c).Start) c.in-Refused.refusal (sym c.view_outcome.ensures
+          ∙ c.in-Refused.is));
+      bytes = refl;
+    }
 
 pub returns-else-out-n : goal.returns-else-out-n
 unfolding unpack_outcome unpacked_over
 returns-else-out-n c =
-    let l = c in
-    let m = l in
-    let k = m in
-    let a = k.args in record {
-      outcome = room_right (size (goal.at.returns-else-out-n c).Start) (needed (goal.at.returns-else-out-n c).Start) (omega arith) ∙ sym (first_done (tests (goal.at.returns-else-out-n c).Start) (room (goal.at.returns-else-out-n c).Start) (done (goal.at.returns-else-out-n c).In-Done));
+    let a = c.args in record {
+      outcome = room_right (size (goal.at.returns-else-out-n c).Start) (needed (goal.at.returns-else-out-n c).Start) (omega arith)
+          ∙ sym (first_done (tests (goal.at.returns-else-out-n c).Start) (room (goal.at.returns-else-out-n c).Start) (done (goal.at.returns-else-out-n c).In-Done));
       bytes = letters_all a.bytes.now _ c.write_letters.ensures (omega arith)
-          ∙ ap₂ (λ (o n : ℕ). map letter (chars 2 a.bytes.now o n) ++ drop n a.out.now) l.count.ensures m.count-n.ensures;
+          ∙ ap₂ (λ (o n : ℕ). map letter (chars 2 a.bytes.now o n) ++ drop n a.out.now) c.count.ensures c.count-n.ensures;
     }

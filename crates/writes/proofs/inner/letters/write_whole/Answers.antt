@@ -54,14 +54,13 @@ loop-b-smaller c = omega arith
 
 pub loop-b-preserved : goal.loop-b-preserved
 loop-b-preserved c =
-    let x = c in
-    let l = x.loop-b in
+    let l = c.loop-b in
     let h = room (goal.at.loop-b-preserved c).In-loop-b in (
       omega arith,
       omega arith,
       omega arith,
       letters_four _ _ l.b l.invariant.3 (omega arith) (omega (arith, l.invariant.3.long)) l.invariant.2
-          x.low_letter.ensures c.low_letter-in-loop-b.ensures c.low_letter-in-loop-b-2.ensures c.low_letter-in-loop-b-3.ensures,
+          c.low_letter.ensures c.low_letter-in-loop-b.ensures c.low_letter-in-loop-b-2.ensures c.low_letter-in-loop-b-3.ensures,
     )
 
 pub shape_of-out : goal.shape_of-out

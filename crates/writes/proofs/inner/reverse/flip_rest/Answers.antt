@@ -14,18 +14,12 @@ returns-then-bits-eq0 c = made_none (omega arith)
 
 pub returns-then-w-eq2 : goal.returns-then-w-eq2
 returns-then-w-eq2 c =
-    let f = c in
-    let t = f in
-    let s = t in
-    let a = s.args in
+    let a = c.args in
     let two : 2 ≡ a.w = omega arith in
-    by_table s.requires.width (t.base_flips-table.ensures ∙ ap flips two) (word 8 a.bytes.now / 2 ^ a.p) a.bits s.requires.w_value (omega arith) f.flip_bytes.ensures
+    by_table c.requires.width (c.base_flips-table.ensures ∙ ap flips two) (word 8 a.bytes.now / 2 ^ a.p) a.bits c.requires.w_value (omega arith) c.flip_bytes.ensures
 
 pub returns-else-w-eq2 : goal.returns-else-w-eq2
 returns-else-w-eq2 c =
-    let f = c in
-    let t = f in
-    let s = t in
-    let a = s.args in
-    let one : 1 ≡ a.w = omega (arith, width_pos s.requires.width) in
-    by_table s.requires.width (t.flag_flips-table.ensures ∙ ap flips one) (word 8 a.bytes.now / 2 ^ a.p) a.bits s.requires.w_value (omega arith) f.flip_bytes-else-w-eq2.ensures
+    let a = c.args in
+    let one : 1 ≡ a.w = omega (arith, width_pos c.requires.width) in
+    by_table c.requires.width (c.flag_flips-table.ensures ∙ ap flips one) (word 8 a.bytes.now / 2 ^ a.p) a.bits c.requires.w_value (omega arith) c.flip_bytes-else-w-eq2.ensures

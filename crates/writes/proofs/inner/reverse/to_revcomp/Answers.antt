@@ -56,27 +56,33 @@ overflow_add-used-in-Done c = record { fits = omega (arith, bits c) }
 pub returns-then-out-used : goal.returns-then-out-used
 unfolding flip_outcome
 returns-then-out-used c =
-    let k = c in record { outcome = room_short (size (goal.at.returns-then-out-used c).Start) (needed (goal.at.returns-then-out-used c).Start) (omega (arith, used (goal.at.returns-then-out-used c).After-count-n, ap (up k.args.w) c.count-n.ensures)) ∙ sym (first_done (tests (goal.at.returns-then-out-used c).Start) (room (goal.at.returns-then-out-used c).Start) (done (goal.at.returns-then-out-used c).In-Done)); bytes = refl }
+    record {
+      outcome = room_short (size (goal.at.returns-then-out-used c).Start) (needed (goal.at.returns-then-out-used c).Start)
+          (omega (arith, used (goal.at.returns-then-out-used c).After-count-n, ap (up c.args.w) c.count-n.ensures))
+          ∙ sym (first_done (tests (goal.at.returns-then-out-used c).Start) (room (goal.at.returns-then-out-used c).Start) (done (goal.at.returns-then-out-used c).In-Done));
+      bytes = refl;
+    }
 
 pub write_flipped-requires : goal.write_flipped-requires
 write_flipped-requires c =
-    let k = c in
-    let j = k in
-    let e = ap₂ (λ (o l : ℕ). first (view_tests j.args.w (length j.args.bytes.now) o l)) c.count.ensures k.count-n.ensures ∙ done (goal.at.write_flipped-requires c).In-Done in record { width = j.requires.width; w_bound = j.requires.w_bound; len_value = e; used_value = (used (goal.at.write_flipped-requires c).After-count-n, omega arith) }
+    let e = ap₂ (λ (o l : ℕ). first (view_tests c.args.w (length c.args.bytes.now) o l)) c.count.ensures c.count-n.ensures ∙ done (goal.at.write_flipped-requires c).In-Done in
+    record { width = c.requires.width; w_bound = c.requires.w_bound; len_value = e; used_value = (used (goal.at.write_flipped-requires c).After-count-n, omega arith) }
 
 pub returns-in-Refused : goal.returns-in-Refused
 unfolding flip_outcome
 returns-in-Refused c =
-    let k = c in
-    let s = k in record { outcome = sym (first_refused (tests (goal.at.returns-in-Refused c).Start) (room (goal.at.returns-in-Refused c).Start) c.in-Refused.refusal (sym k.view_outcome.ensures ∙ c.in-Refused.is)); bytes = refl }
+    record {
+      outcome = sym (first_refused (tests (goal.at.returns-in-Refused c).Start) (room (goal.at.returns-in-Refused c).Start) c.in-Refused.refusal (sym c.view_outcome.ensures
+          ∙ c.in-Refused.is));
+      bytes = refl;
+    }
 
 pub returns-else-out-used : goal.returns-else-out-used
 unfolding flip_outcome
 returns-else-out-used c =
-    let l = c in
-    let j = l in
-    let k = j in
-    let a = k.args in record {
-      outcome = room_right (size (goal.at.returns-else-out-used c).Start) (needed (goal.at.returns-else-out-used c).Start) (omega (arith, used (goal.at.returns-else-out-used c).After-count-n, ap (up a.w) j.count-n.ensures)) ∙ sym (first_done (tests (goal.at.returns-else-out-used c).Start) (room (goal.at.returns-else-out-used c).Start) (done (goal.at.returns-else-out-used c).In-Done));
-      bytes = c.write_flipped.ensures ∙ ap₂ (λ (o n : ℕ). flipped_over a.w a.bytes.now o n a.out.now) l.count.ensures j.count-n.ensures;
+    let a = c.args in record {
+      outcome = room_right (size (goal.at.returns-else-out-used c).Start) (needed (goal.at.returns-else-out-used c).Start)
+          (omega (arith, used (goal.at.returns-else-out-used c).After-count-n, ap (up a.w) c.count-n.ensures))
+          ∙ sym (first_done (tests (goal.at.returns-else-out-used c).Start) (room (goal.at.returns-else-out-used c).Start) (done (goal.at.returns-else-out-used c).In-Done));
+      bytes = c.write_flipped.ensures ∙ ap₂ (λ (o n : ℕ). flipped_over a.w a.bytes.now o n a.out.now) c.count.ensures c.count-n.ensures;
     }

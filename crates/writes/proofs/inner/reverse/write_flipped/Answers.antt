@@ -32,23 +32,28 @@ overflow_mul-bits c = let h = room (goal.at.overflow_mul-bits c).Start in record
 
 pub flip_words-requires : goal.flip_words-requires
 flip_words-requires c =
-    let s = c in
-    let h = room (goal.at.flip_words-requires c).Start in record { width = s.requires.width; w_bound = s.requires.w_bound; w_value = ap (λ (n : ℕ). s.args.w * n) (same (goal.at.flip_words-requires c).Start); bits_bound = (omega (arith, h.room, h.few), h.room, omega (arith, used (goal.at.flip_words-requires c).Start, s.requires.used_value.1)) }
+    let h = room (goal.at.flip_words-requires c).Start in
+    record {
+      width = c.requires.width;
+      w_bound = c.requires.w_bound;
+      w_value = ap (λ (n : ℕ). c.args.w * n) (same (goal.at.flip_words-requires c).Start);
+      bits_bound = (omega (arith, h.room, h.few), h.room, omega (arith, used (goal.at.flip_words-requires c).Start, c.requires.used_value.1));
+    }
 
 pub flip_rest-requires : goal.flip_rest-requires
 flip_rest-requires c =
-    let s = c in
-    let h = room (goal.at.flip_rest-requires c).Start in record { width = s.requires.width; w_bound = s.requires.w_bound; w_value = ap (λ (n : ℕ). s.args.w * n) (same (goal.at.flip_rest-requires c).Start); bits_bound = (omega (arith, h.room, h.few), h.room, omega (arith, used (goal.at.flip_rest-requires c).Start, s.requires.used_value.1)) }
+    let h = room (goal.at.flip_rest-requires c).Start in
+    record {
+      width = c.requires.width;
+      w_bound = c.requires.w_bound;
+      w_value = ap (λ (n : ℕ). c.args.w * n) (same (goal.at.flip_rest-requires c).Start);
+      bits_bound = (omega (arith, h.room, h.few), h.room, omega (arith, used (goal.at.flip_rest-requires c).Start, c.requires.used_value.1));
+    }
 
 pub returns : goal.returns
 returns c =
-    let z = c in
-    let r = z in
-    let f = r in
-    let b = f in
-    let s = b in
-    let a = s.args in
-    let h = s.requires.used_value in
-    flipped-written s.requires.width a.bytes.now (Below-of 8 a.bytes.now (λ i. omega (arith, b.shared_slice_known-1.given i))) a.o a.len a.used h.0 h.1
-    (made-to (made-on f.flip_words.ensures r.flip_rest.ensures (omega arith) (omega arith)) (sym (used (goal.at.returns c).Start)))
-    z.zero_run.ensures
+    let a = c.args in
+    let h = c.requires.used_value in
+    flipped-written c.requires.width a.bytes.now (Below-of 8 a.bytes.now (λ i. omega (arith, c.shared_slice_known-1.given i))) a.o a.len a.used h.0 h.1
+    (made-to (made-on c.flip_words.ensures c.flip_rest.ensures (omega arith) (omega arith)) (sym (used (goal.at.returns c).Start)))
+    c.zero_run.ensures

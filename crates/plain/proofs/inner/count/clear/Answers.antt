@@ -1,1 +1,0 @@
--- By what the call answers, and what is made of its answer. Assumes nothing.
