@@ -1,4 +1,5 @@
 // The C face: one exported function for each public call, which returns the refusal number and gives its other numbers through pointers.
+// Each C name is a function of its own, so `bases` and `flags` both say them all.
 #![tactic(auto)]
 
 pub mod bases;

@@ -6,6 +6,7 @@ ghost use Rattle.forms.specs.Forms.{form_size};
 ghost use Rattle.forms.specs.Numbers.{spelt};
 
 use codes::units::{Chars, TRAILING};
+use codes::widths::{Bases, Flags};
 use counts::inner::blocks::blocks_of;
 use forms::inner::numbers::spelt_size;
 
@@ -14,7 +15,7 @@ use forms::inner::numbers::spelt_size;
 pub extern "C" fn tsiv_bases_room(n: usize) -> usize
     ensures { result ≡ up 2 n + trailing }
 {
-    Chars::new(n).bytes_as_bases().count() + TRAILING
+    Chars::new(n).bytes_as::<Bases>().count() + TRAILING
 }
 
 // The bytes of a store of n flags.
@@ -22,7 +23,7 @@ pub extern "C" fn tsiv_bases_room(n: usize) -> usize
 pub extern "C" fn tsiv_flags_room(n: usize) -> usize
     ensures { result ≡ up 1 n + trailing }
 {
-    Chars::new(n).bytes_as_flags().count() + TRAILING
+    Chars::new(n).bytes_as::<Flags>().count() + TRAILING
 }
 
 // The entries beside a store of n flags.
@@ -48,8 +49,8 @@ fn spelt_room(n: usize) -> usize
 pub extern "C" fn tsiv_form_room(n: usize) -> usize
     ensures { result ≡ form_size n }
 {
-    let bases = Chars::new(n).bytes_as_bases().count();
-    let flags = Chars::new(n).bytes_as_flags().count();
+    let bases = Chars::new(n).bytes_as::<Bases>().count();
+    let flags = Chars::new(n).bytes_as::<Flags>().count();
     1 + spelt_room(n) + (bases + flags)
 }
 

@@ -6,6 +6,7 @@ ghost use Rattle.codes.specs.Refusals.{answer, first, if_done, number_of, bad_wo
 ghost use Rattle.codes.specs.Words.{word, chars_of, flip};
 ghost use Rattle.given.specs.Face.{said};
 
+use codes::widths::{Bases, Flags};
 use plain::inner::words;
 
 #[unsafe(no_mangle)]
@@ -46,7 +47,7 @@ pub extern "C" fn tsiv_unpack_kmer_u128(low: u64, high: u64, k: usize, out: &mut
 pub extern "C" fn tsiv_revcomp_u64(word: u64, len: usize, to: &mut u64) -> u32
     ensures { said result to.new ≡ answer (first (bad_word 1 32 len ∷ [])) (flip 2 (complement 2) len word) 0 }
 {
-    words::revcomp_u64(word, len, to)
+    words::rev_u64::<Bases>(word, len, to)
 }
 
 #[unsafe(no_mangle)]
@@ -60,14 +61,14 @@ pub extern "C" fn tsiv_revcomp_u128(
     ensures { said result (to_low.new, to_high.new)
         ≡ answer (first (bad_word 1 64 len ∷ [])) (halves (flip 2 (complement 2) len (high * 2 ^ 64 + low))) (halves 0) }
 {
-    words::revcomp_u128(low, high, len, to_low, to_high)
+    words::rev_u128::<Bases>(low, high, len, to_low, to_high)
 }
 
 #[unsafe(no_mangle)]
 pub extern "C" fn tsiv_rev_u64(word: u64, len: usize, to: &mut u64) -> u32
     ensures { said result to.new ≡ answer (first (bad_word 1 64 len ∷ [])) (flip 1 (complement 1) len word) 0 }
 {
-    words::rev_u64(word, len, to)
+    words::rev_u64::<Flags>(word, len, to)
 }
 
 #[unsafe(no_mangle)]
@@ -81,5 +82,5 @@ pub extern "C" fn tsiv_rev_u128(
     ensures { said result (to_low.new, to_high.new)
         ≡ answer (first (bad_word 1 128 len ∷ [])) (halves (flip 1 (complement 1) len (high * 2 ^ 64 + low))) (halves 0) }
 {
-    words::rev_u128(low, high, len, to_low, to_high)
+    words::rev_u128::<Flags>(low, high, len, to_low, to_high)
 }

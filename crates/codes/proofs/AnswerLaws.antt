@@ -1,44 +1,28 @@
--- Each answer of this crate can be made again from what it says.
+-- Each answer can be made again from what it says.
 -- Assumes nothing.
-use mathlib.Core.Path.{◌≡◌}
-use Prim.Native.Nat.{ℕ}
-use Rattle.codes.specs.Answers.{symbol_says, word_says, word128_says}
-use Rattle.codes.specs.declared.letters.Symbol.{Symbol}
-use Rattle.codes.specs.declared.refusals.Outcome.{Outcome}
-use Rattle.codes.specs.declared.refusals.Outcome.TheVariants.{Done, Refused}
-use Rattle.codes.specs.declared.words.Word.{Word}
-use Rattle.codes.specs.declared.words.Word128.{Word128}
+use mathlib.Core.Path.{◌≡◌, refl, sym, ap, ◌∙◌}
+use Rattle.std.specs.Prelude.{Result, Ok, Err}
+use Rattle.codes.specs.Answers.{says_by, says, word128_says}
+use Rattle.codes.specs.Refusals.{Outcome}
+use Rattle.codes.specs.declared.refusals.Refusal.{Refusal}
 use Rattle.codes.proofs.RefusalLaws.{Told, outcome_at, outcome_at_number}
 
-abbrev symbol_of : Outcome → ℕ → Symbol
-symbol_of Done x = Symbol.Is x
-symbol_of (Refused r) x = Symbol.Refused r
+-- the result of an outcome and of the numbers that its value stands for
+abbrev pub result_of : {A V : Type 0} → (V → A) → Outcome → V → Result A Refusal
+result_of g (Ok _) v = Ok (g v)
+result_of g (Err r) v = Err r
 
-symbol_back : (r : Symbol) → r ≡ symbol_of (outcome_at (symbol_says r).no) (symbol_says r).values
-symbol_back (Symbol.Is x) = rw (outcome_at_number Done)
-symbol_back (Symbol.Refused r) = rw (outcome_at_number (Refused r))
+-- where the value can be made again from its numbers, so can the result
+module _ {A V : Type 0} (f : A → V) (zeros : V) (g : V → A) (back : (x : A) → x ≡ g (f x)) where
+  made : (r : Result A Refusal) → r ≡ result_of g (outcome_at (says_by f zeros r).no) (says_by f zeros r).values
+  made (Ok x) = ap Ok (back x) ∙ ap (λ (o : Outcome). result_of g o (f x)) (sym (outcome_at_number (Ok tt)))
+  made (Err r) = ap (λ (o : Outcome). result_of g o zeros) (sym (outcome_at_number (Err r)))
 
-pub symbol_told : Told symbol_says
-symbol_told = record { make = symbol_of; back = symbol_back }
+  pub told_by : Told (says_by f zeros)
+  told_by = record { make = result_of g; back = made }
 
-abbrev word_of : Outcome → ℕ → Word
-word_of Done x = Word.Is x
-word_of (Refused r) x = Word.Refused r
-
-word_back : (r : Word) → r ≡ word_of (outcome_at (word_says r).no) (word_says r).values
-word_back (Word.Is x) = rw (outcome_at_number Done)
-word_back (Word.Refused r) = rw (outcome_at_number (Refused r))
-
-pub word_told : Told word_says
-word_told = record { make = word_of; back = word_back }
-
-abbrev word128_of : Outcome → ℕ × ℕ → Word128
-word128_of Done x = Word128.Is x.0 x.1
-word128_of (Refused r) x = Word128.Refused r
-
-word128_back : (r : Word128) → r ≡ word128_of (outcome_at (word128_says r).no) (word128_says r).values
-word128_back (Word128.Is low high) = rw (outcome_at_number Done)
-word128_back (Word128.Refused r) = rw (outcome_at_number (Refused r))
+pub told : Told says
+told = told_by (λ x. x) 0 (λ x. x) (λ x. refl)
 
 pub word128_told : Told word128_says
-word128_told = record { make = word128_of; back = word128_back }
+word128_told = told_by (λ p. (p.low, p.high)) (0, 0) (λ v. record { low = v.0; high = v.1 }) (λ p. refl)

@@ -2,23 +2,25 @@
 -- Assumes nothing.
 use mathlib.Core.Path.{sym, ap, ◌∙◌}
 use Prim.Native.Nat.{ℕ}
+use denote.Param.Laws.{Laws}
+use denote.RattleType.{RattleType}
+use mir.Syntax.{Dict}
 use Rattle.codes.specs.declared.units.Chars.{Chars}
 use Rattle.codes.specs.declared.units.Bytes.{Bytes}
-use Rattle.codes.proofs.AnswerLaws.{symbol_told, word_told, word128_told}
+use Rattle.codes.specs.declared.widths.Width.{Ghosts}
+use Rattle.codes.proofs.AnswerLaws.{told, word128_told}
 use Rattle.codes.proofs.Permitted.{Decided, Once, skip}
 use Rattle.codes.proofs.RefusalLaws.{says-once}
 use Rattle.codes.proofs.refusals.Refusal.number.Kinds as refusal-number·kinds
 use Rattle.codes.proofs.refusals.Refusal.number.Reads as refusal-number
-use Rattle.codes.proofs.refusals.Outcome.number.Kinds as outcome-number·kinds
-use Rattle.codes.proofs.refusals.Outcome.number.Reads as outcome-number
+use Rattle.codes.proofs.refusals.number_of.Kinds as number-of·kinds
+use Rattle.codes.proofs.refusals.number_of.Reads as number-of
 use Rattle.codes.proofs.units.Chars.new.Kinds as chars-new·kinds
 use Rattle.codes.proofs.units.Chars.new.Reads as chars-new
 use Rattle.codes.proofs.units.Chars.count.Kinds as chars-count·kinds
 use Rattle.codes.proofs.units.Chars.count.Reads as chars-count
-use Rattle.codes.proofs.units.Chars.bytes_as_bases.Kinds as chars-bytes-as-bases·kinds
-use Rattle.codes.proofs.units.Chars.bytes_as_bases.Reads as chars-bytes-as-bases
-use Rattle.codes.proofs.units.Chars.bytes_as_flags.Kinds as chars-bytes-as-flags·kinds
-use Rattle.codes.proofs.units.Chars.bytes_as_flags.Reads as chars-bytes-as-flags
+use Rattle.codes.proofs.units.Chars.bytes_as.Kinds as chars-bytes-as·kinds
+use Rattle.codes.proofs.units.Chars.bytes_as.Reads as chars-bytes-as
 use Rattle.codes.proofs.units.Bytes.new.Kinds as bytes-new·kinds
 use Rattle.codes.proofs.units.Bytes.new.Reads as bytes-new
 use Rattle.codes.proofs.units.Bytes.count.Kinds as bytes-count·kinds
@@ -43,10 +45,6 @@ use Rattle.codes.proofs.words.unpack_kmer.Kinds as unpack-kmer·kinds
 use Rattle.codes.proofs.words.unpack_kmer.Reads as unpack-kmer
 use Rattle.codes.proofs.words.unpack_kmer_u128.Kinds as unpack-kmer-u128·kinds
 use Rattle.codes.proofs.words.unpack_kmer_u128.Reads as unpack-kmer-u128
-use Rattle.codes.proofs.words.revcomp_u64.Kinds as revcomp-u64·kinds
-use Rattle.codes.proofs.words.revcomp_u64.Reads as revcomp-u64
-use Rattle.codes.proofs.words.revcomp_u128.Kinds as revcomp-u128·kinds
-use Rattle.codes.proofs.words.revcomp_u128.Reads as revcomp-u128
 use Rattle.codes.proofs.words.rev_u64.Kinds as rev-u64·kinds
 use Rattle.codes.proofs.words.rev_u64.Reads as rev-u64
 use Rattle.codes.proofs.words.rev_u128.Kinds as rev-u128·kinds
@@ -55,20 +53,14 @@ use Rattle.codes.proofs.words.rev_u128.Reads as rev-u128
 pub refusal_number_decided : Decided 0 refusal-number·kinds.ps refusal-number·kinds.r refusal-number.Post
 refusal_number_decided κs a x y s t p q = p ∙ sym q
 
-pub outcome_number_decided : Decided 0 outcome-number·kinds.ps outcome-number·kinds.r outcome-number.Post
-outcome_number_decided κs a x y s t p q = p ∙ sym q
+pub number_of_decided : Decided 0 number-of·kinds.ps number-of·kinds.r number-of.Post
+number_of_decided κs a x y s t p q = p ∙ sym q
 
 pub chars_new_decided : Decided 0 chars-new·kinds.ps chars-new·kinds.r chars-new.Post
 chars_new_decided κs a x y s t p q = ap (λ (m : ℕ). let c : Chars = record { 0 = m } in c) (p ∙ sym q)
 
 pub chars_count_decided : Decided 0 chars-count·kinds.ps chars-count·kinds.r chars-count.Post
 chars_count_decided κs a x y s t p q = p ∙ sym q
-
-pub chars_bytes_as_bases_decided : Decided 0 chars-bytes-as-bases·kinds.ps chars-bytes-as-bases·kinds.r chars-bytes-as-bases.Post
-chars_bytes_as_bases_decided κs a x y s t p q = ap (λ (m : ℕ). let c : Bytes = record { 0 = m } in c) (p ∙ sym q)
-
-pub chars_bytes_as_flags_decided : Decided 0 chars-bytes-as-flags·kinds.ps chars-bytes-as-flags·kinds.r chars-bytes-as-flags.Post
-chars_bytes_as_flags_decided κs a x y s t p q = ap (λ (m : ℕ). let c : Bytes = record { 0 = m } in c) (p ∙ sym q)
 
 pub bytes_new_decided : Decided 0 bytes-new·kinds.ps bytes-new·kinds.r bytes-new.Post
 bytes_new_decided κs a x y s t p q = ap (λ (m : ℕ). let c : Bytes = record { 0 = m } in c) (p ∙ sym q)
@@ -77,7 +69,7 @@ pub bytes_count_decided : Decided 0 bytes-count·kinds.ps bytes-count·kinds.r b
 bytes_count_decided κs a x y s t p q = p ∙ sym q
 
 pub pack_char_decided : Decided 0 pack-char·kinds.ps pack-char·kinds.r pack-char.Post
-pack_char_decided κs a x y s t p q = says-once symbol_told x y (p ∙ sym q)
+pack_char_decided κs a x y s t p q = says-once told x y (p ∙ sym q)
 
 pub pack_char_lossy_decided : Decided 0 pack-char-lossy·kinds.ps pack-char-lossy·kinds.r pack-char-lossy.Post
 pack_char_lossy_decided κs a x y s t p q = p ∙ sym q
@@ -86,16 +78,16 @@ pub char_is_ambiguous_decided : Decided 0 char-is-ambiguous·kinds.ps char-is-am
 char_is_ambiguous_decided κs a x y s t p q = p ∙ sym q
 
 pub unpack_base_decided : Decided 0 unpack-base·kinds.ps unpack-base·kinds.r unpack-base.Post
-unpack_base_decided κs a x y s t p q = says-once symbol_told x y (p ∙ sym q)
+unpack_base_decided κs a x y s t p q = says-once told x y (p ∙ sym q)
 
 pub complement_char_decided : Decided 0 complement-char·kinds.ps complement-char·kinds.r complement-char.Post
-complement_char_decided κs a x y s t p q = says-once symbol_told x y (p ∙ sym q)
+complement_char_decided κs a x y s t p q = says-once told x y (p ∙ sym q)
 
 pub complement_base_decided : Decided 0 complement-base·kinds.ps complement-base·kinds.r complement-base.Post
-complement_base_decided κs a x y s t p q = says-once symbol_told x y (p ∙ sym q)
+complement_base_decided κs a x y s t p q = says-once told x y (p ∙ sym q)
 
 pub pack_kmer_lossy_decided : Decided 1 pack-kmer-lossy·kinds.ps pack-kmer-lossy·kinds.r pack-kmer-lossy.Post
-pack_kmer_lossy_decided κs a x y s t p q = says-once word_told x y (p ∙ sym q)
+pack_kmer_lossy_decided κs a x y s t p q = says-once told x y (p ∙ sym q)
 
 pub pack_kmer_u128_lossy_decided : Decided 1 pack-kmer-u128-lossy·kinds.ps pack-kmer-u128-lossy·kinds.r pack-kmer-u128-lossy.Post
 pack_kmer_u128_lossy_decided κs a x y s t p q = says-once word128_told x y (p ∙ sym q)
@@ -112,14 +104,13 @@ unpack_kmer_u128_decided κs a x y v w p q =
     let out = (rw p.0 at p.1) ∙ sym (rw q.0 at q.1) in
     λ i. (says i, skip 3 (out i, tt))
 
-pub revcomp_u64_decided : Decided 0 revcomp-u64·kinds.ps revcomp-u64·kinds.r revcomp-u64.Post
-revcomp_u64_decided κs a x y s t p q = says-once word_told x y (p ∙ sym q)
+-- at every width W
+module _ (T : RattleType) (L : Laws T) (W : Ghosts T.Denot) (D : Dict) where
+  pub chars_bytes_as_decided : Decided 1 (chars-bytes-as·kinds.ps T L) (chars-bytes-as·kinds.r T L) (chars-bytes-as.Post T L W D)
+  chars_bytes_as_decided κs a x y s t p q = ap (λ (m : ℕ). let c : Bytes = record { 0 = m } in c) (p ∙ sym q)
 
-pub revcomp_u128_decided : Decided 0 revcomp-u128·kinds.ps revcomp-u128·kinds.r revcomp-u128.Post
-revcomp_u128_decided κs a x y s t p q = says-once word128_told x y (p ∙ sym q)
+  pub rev_u64_decided : Decided 1 (rev-u64·kinds.ps T L) (rev-u64·kinds.r T L) (rev-u64.Post T L W D)
+  rev_u64_decided κs a x y s t p q = says-once told x y (p ∙ sym q)
 
-pub rev_u64_decided : Decided 0 rev-u64·kinds.ps rev-u64·kinds.r rev-u64.Post
-rev_u64_decided κs a x y s t p q = says-once word_told x y (p ∙ sym q)
-
-pub rev_u128_decided : Decided 0 rev-u128·kinds.ps rev-u128·kinds.r rev-u128.Post
-rev_u128_decided κs a x y s t p q = says-once word128_told x y (p ∙ sym q)
+  pub rev_u128_decided : Decided 1 (rev-u128·kinds.ps T L) (rev-u128·kinds.r T L) (rev-u128.Post T L W D)
+  rev_u128_decided κs a x y s t p q = says-once word128_told x y (p ∙ sym q)

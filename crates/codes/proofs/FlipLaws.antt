@@ -3,7 +3,7 @@
 use mathlib.Core.Bool.{false}
 use mathlib.Core.Path.{◌≡◌, sym, ap, ◌∙◌, subst}
 use Prim.Native.Nat.{ℕ, ◌+◌, ◌-◌, ◌*◌, ◌/◌, ◌^◌, ◌≤◌, ◌<◌}
-use native.Mathlib.Nat.{le_trans, mul-add, mul-sub, mul-le-mul_left, le_of_mul-le-mul_left, eq_of_mul-eq-mul_left}
+use native.Mathlib.Nat.{mul-add, mul-sub, mul-le-mul_left, le_of_mul-le-mul_left, eq_of_mul-eq-mul_left}
 use Rattle.codes.specs.Codes.{IsWidth, complement}
 use Rattle.codes.specs.Refusals.{bad_word}
 use Rattle.codes.specs.Words.{flip}
@@ -36,8 +36,8 @@ module _ {w : ℕ} (W : IsWidth w) where
           ∙ subst (λ (b : ℕ). flip w (complement w) (64 / w + 64 / w) (hi * 2 ^ b + lo) ≡ flip w (complement w) (64 / w) lo * 2 ^ b + flip w (complement w) (64 / w) hi) (whole W 8)
           (flip-pair w (complement w) (64 / w) lo hi (subst (λ (b : ℕ). lo < 2 ^ b) (sym (whole W 8)) h))
 
--- a length n that is not refused has its bits in the word
-pub low_in : (w most bits len n : ℕ) → (bad_word 1 most len).0 ≡ false → n ≡ len → w * most ≤ bits → (1 ≤ n) × (w * n ≤ bits)
-low_in w most bits len n e en l =
-    let i : (1 ≤ n) × (n ≤ most) = word_in 1 most n (ap (λ (k : ℕ). (bad_word 1 most k).0) en ∙ e) in
-    (i.0, le_trans (mul-le-mul_left w i.1) l)
+  -- a length n that is not refused has its bits among those of m bytes
+  pub low_in : (m : ℕ) {len n : ℕ} → (bad_word 1 (8 * m / w) len).0 ≡ false → n ≡ len → (1 ≤ n) × (w * n ≤ 8 * m)
+  low_in m {len} {n} e en =
+      let i : (1 ≤ n) × (n ≤ 8 * m / w) = word_in 1 (8 * m / w) n (ap (λ (k : ℕ). (bad_word 1 (8 * m / w) k).0) en ∙ e) in
+      (i.0, subst (λ (b : ℕ). w * n ≤ b) (whole W m) (mul-le-mul_left w i.1))

@@ -1,6 +1,7 @@
 -- If several tests apply, the lowest number is given, and a number is given only when its line holds: of every list of tests whose
 -- refusal numbers do not descend.
 -- Assumes nothing.
+use Rattle.std.specs.Prelude.{Ok, Err}
 use mathlib.Core.Bool.{Bool, true, false, ◌&&◌}
 use mathlib.Core.List.Memᴰ
 use mathlib.Core.List.{List, [], ◌∷◌, Memᴰ}
@@ -11,8 +12,7 @@ use native.Mathlib.Nat.{le_trans}
 use native.Mathlib.Omega.{arith}
 use lib.Dec.{leb}
 use borrow.Author.Tests.{leb-true}
-use Rattle.codes.specs.Refusals.{Test, first, number, number_of, bad_word, bad_letter, bad_capital, bad_code, no_room}
-use Rattle.codes.specs.declared.refusals.Outcome.TheVariants.{Done, Refused}
+use Rattle.codes.specs.Refusals.{Test, first, Outcome, number, number_of, bad_word, bad_letter, bad_capital, bad_code, no_room}
 use Rattle.codes.specs.declared.refusals.Refusal.{Refusal}
 use Rattle.codes.proofs.RefusalLaws.{both, outcome_at, outcome_at_number}
 
@@ -30,9 +30,9 @@ pub record Lowest (n : ℕ) (ts : List Test) : Type 0 where
 
 -- 0 is the number of no refusal
 number_pos : (r : Refusal) → 1 ≤ number r
-number_pos r = pos (number r) (λ e. let z = sym (outcome_at_number (Refused r)) ∙ ap outcome_at e ∙ outcome_at_number Done in refused r z)
+number_pos r = pos (number r) (λ e. let z = sym (outcome_at_number (Err r)) ∙ ap outcome_at e ∙ outcome_at_number (Ok tt) in refused r z)
   where
-    refused : (r : Refusal) → Refused r ≡ Done → ⊥
+    refused : (r : Refusal) → ◌≡◌ {A = Outcome} (Err r) (Ok tt) → ⊥
     refused r e = let z : ◌≡◌ {A = ℕ} 0 1 = cc in absurd (omega arith)
 
     pos : (n : ℕ) → (n ≡ 0 → ⊥) → 1 ≤ n
@@ -57,7 +57,7 @@ lowest_of n ((false, r) ∷ us) e t m h =
     ⊎_elim (λ p. let q = sym h ∙ ap (λ (x : Test). x.0) p in let z : ◌≡◌ {A = ℕ} 0 1 = cc in absurd (omega arith))
     (λ k. lowest_of (number r) us (both (leb n (number r)) _ e).1 t k h) (Memᴰ.cases_cons m)
 
-only_of : (ts : List Test) (r : Refusal) → first ts ≡ Refused r → Memᴰ (true, r) ts
+only_of : (ts : List Test) (r : Refusal) → first ts ≡ Err r → Memᴰ (true, r) ts
 only_of [] r e = let z : ◌≡◌ {A = ℕ} 0 1 = cc in absurd (omega arith)
 only_of ((true, q) ∷ us) r e = let p : q ≡ r = cc in Memᴰ.head (λ i. (true, sym p i))
 only_of ((false, q) ∷ us) r e = Memᴰ.tail (only_of us r e)
@@ -66,7 +66,7 @@ only_of ((false, q) ∷ us) r e = Memᴰ.tail (only_of us r e)
 pub first_lowest : (ts : List Test) → ascending_from 0 ts ≡ true → Lowest (number_of (first ts)) ts
 first_lowest ts e = record {
   lowest = lowest_of 0 ts e;
-  only = λ r p. only_of ts r (sym (outcome_at_number (first ts)) ∙ ap outcome_at p ∙ outcome_at_number (Refused r));
+  only = λ r p. only_of ts r (sym (outcome_at_number (first ts)) ∙ ap outcome_at p ∙ outcome_at_number (Err r));
 }
 
 -- words and letters

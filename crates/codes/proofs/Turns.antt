@@ -1,40 +1,15 @@
--- One turn of the loops that pack and unpack a word; and a list that is written over another in parts, from the front or into a part that is lent.
+-- One turn of the loop that unpacks a word; and a list that is written over another in parts, from the front or into a part that is lent.
 -- Assumes nothing.
 use mathlib.Core.Path.{◌≡◌, sym, ap, ap₂, ◌∙◌}
 use mathlib.Core.List.{List, [], ◌∷◌, ◌++◌, map, map-append, append-nil, append_assoc}
 use Prim.Native.Nat.{ℕ, suc, ◌+◌, ◌-◌, ◌*◌, ◌/◌, ◌%◌, ◌^◌, ◌≤◌, ◌<◌}
 use native.Mathlib.Nat.{mul-suc, le_of_eq}
 use native.Mathlib.Numerals.{add-one}
-use native.Mathlib.Omega.{arith}
 use lib.Seq.{drop-cons, set_at, append_snoc, take_at, drop_at, take_all, drop-drop}
 use lib.ListN.{length, get_or, take, drop, set, drop_of_length-le, length-drop, length-map}
 use lib.Pow.{shr-shr}
-use Rattle.codes.specs.Words.{word, chars_of}
-use Rattle.codes.proofs.WordLaws.{word_fits, chars_of-snoc, length-chars_of}
-
--- one turn of a loop that packs from the last letter down to the first, with room for n
-pub record Packed (w : ℕ) (f : ℕ → ℕ) (n : ℕ) (s : List ℕ) (i out : ℕ) : Type 0 where
-  pub out_is : out * 2 ^ w + f (get_or s (i - 1) 0) ≡ word w (map f (drop (i - 1) s))
-  pub room : out * 2 ^ w + f (get_or s (i - 1) 0) < 2 ^ (w * n)
-
-pub pack-turn : (w : ℕ) (f : ℕ → ℕ) → ((b : ℕ) → f b < 2 ^ w) → (n : ℕ) (s : List ℕ) (i out : ℕ) → 0 < i → i ≤ length s → length s ≤ n
-    → out ≡ word w (map f (drop i s)) → Packed w f n s i out
-unfolding word
-pack-turn w f h n s i out p l r e = record { out_is = is; room = rw is (word_fits w f h n rest short) }
-  where
-    rest : List ℕ
-    rest = drop (i - 1) s
-
-    short : length rest ≤ n
-    short = simp length-drop (omega arith)
-
-    back : suc (i - 1) ≡ i
-    back = omega arith
-
-    is : out * 2 ^ w + f (get_or s (i - 1) 0) ≡ word w (map f (drop (i - 1) s))
-    is =
-        ap (λ (y : ℕ). y * 2 ^ w + f (get_or s (i - 1) 0)) (e ∙ ap (λ (k : ℕ). word w (map f (drop k s))) (sym back))
-        ∙ ap (λ (l : List ℕ). word w (map f l)) (sym (drop-cons s (i - 1) 0 (omega arith)))
+use Rattle.codes.specs.Words.{chars_of}
+use Rattle.codes.proofs.WordLaws.{chars_of-snoc, length-chars_of}
 
 -- one turn of a loop that writes the characters of x, each through f, from the front of a list
 pub record Unpacked (w : ℕ) (f : ℕ → ℕ) (x : ℕ) (old : List ℕ) (i : ℕ) (out : List ℕ) (rest : ℕ) : Type 0 where

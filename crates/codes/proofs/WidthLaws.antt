@@ -7,7 +7,7 @@ use native.Mathlib.Nat.{le_trans, mul-le-mul, mul-le-mul_left, mul-le-mul_right,
 use native.Mathlib.Nat.{div-add-mod', div-mul-le_self, lt-div-mul-add, le-div_iff_mul-le, mul-add-div_right, mul-div_cancel_left}
 use native.Mathlib.Decide.{dec_lt}
 use native.Mathlib.Omega.{arith}
-use lib.Dec.{ltb, lit<, lit≤}
+use lib.Dec.{ltb, lit<}
 use lib.Arith.{digits_div}
 use lib.Pow.{shl_exact}
 use borrow.Author.Tests.{lt-ltb, le-ltb}
@@ -16,12 +16,6 @@ use Rattle.codes.specs.Codes.{per, up, trailing, IsWidth}
 -- one order or the other
 pub below_or {ℓ} : {X : Type ℓ} (a b : ℕ) → (a < b → X) → (b ≤ a → X) → X
 below_or a b f g = elim (dec_lt a b) [ yes h ↦ f h | no h ↦ g (omega arith) ]
-
-pub width_1 : IsWidth 1
-width_1 = record { whole = refl; small = lit≤ tt }
-
-pub width_2 : IsWidth 2
-width_2 = record { whole = refl; small = lit≤ tt }
 
 -- a width is 1, 2 or 4
 pub width_cases : (P : ℕ → Type 0) → P 1 → P 2 → P 4 → (w : ℕ) → IsWidth w → P w

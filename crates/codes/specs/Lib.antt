@@ -1,4 +1,5 @@
 pub mod Codes
+pub mod Widths
 pub mod Refusals
 pub mod Words
 pub mod Answers

@@ -1,11 +1,9 @@
 -- Refusal numbers: the number of each refusal, the test for each line of the table, and what a refusal returns.
 -- Assumes nothing.
-use Rattle.std.specs.Prelude.{Bool, ◌||◌, List, [], ◌∷◌, ℕ, ◌+◌, ◌*◌, ◌^◌, leb, ltb}
+use Rattle.std.specs.Prelude.{Result, Ok, Err, Bool, ◌||◌, List, [], ◌∷◌, ℕ, ◌+◌, ◌*◌, ◌^◌, leb, ltb}
 use Rattle.codes.specs.Codes.{per, up, trailing, pick, strict, place_in, capitals}
 use Rattle.codes.specs.declared.refusals.Refusal.{Refusal}
 use Rattle.codes.specs.declared.refusals.Refusal.TheVariants.{TooLong, BadStore, BadView, BadRange, BadWord, BadLetter, BadForm, BadStream, NoRoom, Partial}
-use Rattle.codes.specs.declared.refusals.Outcome.{Outcome}
-use Rattle.codes.specs.declared.refusals.Outcome.TheVariants.{Done, Refused}
 
 abbrev pub number : Refusal → ℕ
 number TooLong = 1
@@ -19,9 +17,13 @@ number BadStream = 8
 number NoRoom = 9
 number Partial = 10
 
+-- what a call that gives no other number answers
+abbrev pub Outcome : Type 0
+Outcome = Result (Unit {0}) Refusal
+
 abbrev pub number_of : Outcome → ℕ
-number_of Done = 0
-number_of (Refused r) = number r
+number_of (Ok _) = 0
+number_of (Err r) = number r
 
 -- a line of the table: whether it holds, and its refusal
 abbrev pub Test : Type 0
@@ -77,13 +79,18 @@ view_tests w n o len = too_long n ∷ bad_view w n o len ∷ []
 
 -- of several that apply, the first
 abbrev pub first : List Test → Outcome
-first [] = Done
-first (t ∷ ts) = pick t.0 (Refused t.1) (first ts)
+first [] = Ok tt
+first (t ∷ ts) = pick t.0 (Err t.1) (first ts)
 
 -- what a call gives where it is done, and what where it is refused
 abbrev pub if_done : {A : Type 0} → Outcome → A → A → A
-if_done Done a b = a
-if_done (Refused r) a b = b
+if_done (Ok _) a b = a
+if_done (Err r) a b = b
+
+-- what a call gives where it is done
+abbrev pub giving : {A : Type 0} → Outcome → A → Result A Refusal
+giving (Ok _) a = Ok a
+giving (Err r) a = Err r
 
 -- an answer: its number, and its other numbers
 pub record Answer (A : Type 0) : Type 0 where

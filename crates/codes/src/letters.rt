@@ -1,29 +1,22 @@
 // Letters and codes, one at a time: every byte has its answer.
 ghost use Rattle.std.specs.Prelude.{[], ◌∷◌, ◌≡◌};
-ghost use Rattle.codes.specs.Answers.{symbol_says};
+ghost use Rattle.codes.specs.Answers.{says};
 ghost use Rattle.codes.specs.Codes.{strict, lossy, flag, letter, complement, complement_letter};
 ghost use Rattle.codes.specs.Refusals.{answer, first, bad_letter, bad_capital, bad_code};
 
 use crate::refusals::Refusal;
 
-// A letter or a code.
-#[derive(Clone, Copy)]
-pub enum Symbol {
-    Is(u8),
-    Refused(Refusal),
-}
-
 // The code of one of the letters ACGTUacgtu; U has that of T.
-pub fn pack_char(byte: u8) -> Symbol
-    ensures { symbol_says result ≡ answer (first (bad_letter byte ∷ [])) (strict byte) 0 }
+pub fn pack_char(byte: u8) -> Result<u8, Refusal>
+    ensures { says result ≡ answer (first (bad_letter byte ∷ [])) (strict byte) 0 }
 {
     match byte {
-        b'A' | b'a' => Symbol::Is(0),
-        b'C' | b'c' => Symbol::Is(1),
-        b'T' | b't' => Symbol::Is(2),
-        b'G' | b'g' => Symbol::Is(3),
-        b'U' | b'u' => Symbol::Is(2),
-        _ => Symbol::Refused(Refusal::BadLetter),
+        b'A' | b'a' => Ok(0),
+        b'C' | b'c' => Ok(1),
+        b'T' | b't' => Ok(2),
+        b'G' | b'g' => Ok(3),
+        b'U' | b'u' => Ok(2),
+        _ => Err(Refusal::BadLetter),
     }
 }
 
@@ -46,37 +39,37 @@ pub fn char_is_ambiguous(byte: u8) -> u8
 }
 
 // The capital letter of a code.
-pub fn unpack_base(code: u8) -> Symbol
-    ensures { symbol_says result ≡ answer (first (bad_code code ∷ [])) (letter code) 0 }
+pub fn unpack_base(code: u8) -> Result<u8, Refusal>
+    ensures { says result ≡ answer (first (bad_code code ∷ [])) (letter code) 0 }
 {
     match code {
-        0 => Symbol::Is(b'A'),
-        1 => Symbol::Is(b'C'),
-        2 => Symbol::Is(b'T'),
-        3 => Symbol::Is(b'G'),
-        _ => Symbol::Refused(Refusal::BadLetter),
+        0 => Ok(b'A'),
+        1 => Ok(b'C'),
+        2 => Ok(b'T'),
+        3 => Ok(b'G'),
+        _ => Err(Refusal::BadLetter),
     }
 }
 
 // The capital letter that pairs with a capital letter.
-pub fn complement_char(byte: u8) -> Symbol
-    ensures { symbol_says result ≡ answer (first (bad_capital byte ∷ [])) (complement_letter byte) 0 }
+pub fn complement_char(byte: u8) -> Result<u8, Refusal>
+    ensures { says result ≡ answer (first (bad_capital byte ∷ [])) (complement_letter byte) 0 }
 {
     match byte {
-        b'A' => Symbol::Is(b'T'),
-        b'C' => Symbol::Is(b'G'),
-        b'T' => Symbol::Is(b'A'),
-        b'G' => Symbol::Is(b'C'),
-        _ => Symbol::Refused(Refusal::BadLetter),
+        b'A' => Ok(b'T'),
+        b'C' => Ok(b'G'),
+        b'T' => Ok(b'A'),
+        b'G' => Ok(b'C'),
+        _ => Err(Refusal::BadLetter),
     }
 }
 
 // The code of the base that pairs with a base.
-pub fn complement_base(code: u8) -> Symbol
-    ensures { symbol_says result ≡ answer (first (bad_code code ∷ [])) (complement 2 code) 0 }
+pub fn complement_base(code: u8) -> Result<u8, Refusal>
+    ensures { says result ≡ answer (first (bad_code code ∷ [])) (complement 2 code) 0 }
 {
     if 3 < code {
-        return Symbol::Refused(Refusal::BadLetter);
+        return Err(Refusal::BadLetter);
     }
-    Symbol::Is(code ^ 2)
+    Ok(code ^ 2)
 }

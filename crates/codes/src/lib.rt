@@ -5,4 +5,5 @@ pub mod inner;
 pub mod letters;
 pub mod refusals;
 pub mod units;
+pub mod widths;
 pub mod words;

@@ -2,53 +2,34 @@
 ghost use Rattle.std.specs.Prelude.{◌≡◌};
 ghost use Rattle.codes.specs.Refusals.{number, number_of};
 
-#[derive(Clone, Copy)]
+#[derive(Clone, Copy, Debug, PartialEq, Eq, Hash)]
 pub enum Refusal {
-    TooLong,
-    BadStore,
-    BadView,
-    BadRange,
-    BadWord,
-    BadLetter,
-    BadForm,
-    BadStream,
-    NoRoom,
-    Partial,
-}
-
-// What a call that gives no other number answers.
-#[derive(Clone, Copy)]
-pub enum Outcome {
-    Done,
-    Refused(Refusal),
+    TooLong = 1,
+    BadStore = 2,
+    BadView = 3,
+    BadRange = 4,
+    BadWord = 5,
+    BadLetter = 6,
+    BadForm = 7,
+    BadStream = 8,
+    NoRoom = 9,
+    Partial = 10,
 }
 
 impl Refusal {
     pub fn number(self) -> u8
         ensures { result ≡ number self }
     {
-        match self {
-            Refusal::TooLong => 1,
-            Refusal::BadStore => 2,
-            Refusal::BadView => 3,
-            Refusal::BadRange => 4,
-            Refusal::BadWord => 5,
-            Refusal::BadLetter => 6,
-            Refusal::BadForm => 7,
-            Refusal::BadStream => 8,
-            Refusal::NoRoom => 9,
-            Refusal::Partial => 10,
-        }
+        self as u8
     }
 }
 
-impl Outcome {
-    pub fn number(self) -> u8
-        ensures { result ≡ number_of self }
-    {
-        match self {
-            Outcome::Done => 0,
-            Outcome::Refused(refusal) => refusal.number(),
-        }
+// The number of what a call that gives no other number answers.
+pub fn number_of(outcome: Result<(), Refusal>) -> u8
+    ensures { result ≡ number_of outcome }
+{
+    match outcome {
+        Ok(()) => 0,
+        Err(refusal) => refusal.number(),
     }
 }

@@ -2,7 +2,8 @@
 ghost use Rattle.std.specs.Prelude.{◌≡◌};
 ghost use Rattle.codes.specs.Codes.{up};
 
-use crate::inner::counts::bytes_for;
+use crate::inner::counts::eighth;
+use crate::widths::Width;
 
 // The bytes that are lent behind the last character of a view or a store.
 pub const TRAILING: usize = 48;
@@ -28,18 +29,13 @@ impl Chars {
         self.0
     }
 
-    // The bytes that so many bases take.
-    pub fn bytes_as_bases(self) -> Bytes
-        ensures { result.0 ≡ up 2 self.0 }
+    // The bytes that so many characters take.
+    pub fn bytes_as<W: Width>(self) -> Bytes
+        ensures { result.0 ≡ up W.BITS self.0 }
     {
-        bytes_for(2, self)
-    }
-
-    // The bytes that so many flags take.
-    pub fn bytes_as_flags(self) -> Bytes
-        ensures { result.0 ≡ up 1 self.0 }
-    {
-        bytes_for(1, self)
+        let c = eighth::<W>();
+        let k = self.0;
+        Bytes(k / c + (k % c + (c - 1)) / c)
     }
 }
 

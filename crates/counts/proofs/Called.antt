@@ -2,6 +2,7 @@
 -- the contract, the buffer and the entries at exit and the length answered are those of the entry store after the call. And what a query answers of what
 -- such calls leave is the plain count of the flags which they alone give.
 -- Assumes nothing.
+use Rattle.std.specs.Prelude.{Ok}
 use borrow.Fn.Kinds.{Out, ParamKind, ResultKind, Dens, res_t, ended_of}
 use contract.Lifetimes.{Lfts}
 use denote.Triple.Clauses.{AtExit}
@@ -11,11 +12,10 @@ use Prim.Native.Nat.{ℕ}
 use lib.ListN.{length}
 use lib.Seq.{slice}
 use Rattle.codes.specs.Refusals.{Answer, answer, first, bad_end, bad_start}
-use Rattle.codes.specs.declared.refusals.Outcome.TheVariants.{Done}
 use Rattle.fields.specs.Flags.{set_flags}
 use Rattle.stores.specs.Answers.{pushed_says, kept_says}
 use Rattle.stores.specs.Stores.{Call, clear, push_ascii, push_seq, overwrite, cut, outcome, answered, after}
-use Rattle.counts.specs.Answers.{count_says}
+use Rattle.codes.specs.Answers.{says}
 use Rattle.counts.specs.Counts.{counted_outcome, counted_answer, bytes_after, queried}
 use Rattle.counts.specs.History.{Counted, step, run, history}
 use Rattle.counts.proofs.CallLaws.{clear-entries}
@@ -67,10 +67,10 @@ pub cut_called : Steps 2 cut·kinds.ps cut·kinds.r cut.Post (λ κs. kept_says)
 cut_called κs a x s p = λ i. counted (p.1.0 i) (p.0 i).values.2 (p.1.1 i)
 
 -- of what an accepted clear and the calls cs leave
-pub count_called : (bs : List ℕ) (old : ℕ) (entries : List ℕ) → counted_outcome (length bs) 0 (length entries) clear ≡ Done → (cs : List Call)
+pub count_called : (bs : List ℕ) (old : ℕ) (entries : List ℕ) → counted_outcome (length bs) 0 (length entries) clear ≡ Ok tt → (cs : List Call)
     → (κs : Lfts 2) (a : Dens κs count·kinds.ps) (x : (res_t count·kinds.r κs).Denot) (s : AtExit (ended_of 2 count·kinds.ps count·kinds.r) κs) → count.Post κs a x s
     → counted a.0.now a.1.0.0 a.1.1.0.now ≡ run (step (counted bs old entries) clear) cs
-    → count_says x
+    → says x
     ≡ answer (first (bad_end (length (history (length bs) (length entries) [] cs)) a.1.1.1.1.0.0 ∷ bad_start a.1.1.1.0.0 a.1.1.1.1.0.0 ∷ []))
     (set_flags (slice a.1.1.1.0.0 a.1.1.1.1.0.0 (history (length bs) (length entries) [] cs))) 0
 count_called bs old entries e cs κs a x s p q =

@@ -2,17 +2,16 @@
 -- only the bytes of its run; a window that lies in the track before and after it, and holds no position that it overwrites, keeps its answer; and after an
 -- accepted clear and any of these calls every window's answer is that of the flags which the calls alone give.
 -- Assumes nothing.
+use Rattle.std.specs.Prelude.{Ok}
 use mathlib.Core.List.{List, []}
 use mathlib.Core.Path.{◌≡◌, refl, sym, ap, subst}
 use Prim.Native.Nat.{ℕ, ◌+◌, ◌≤◌, ◌<◌}
 use native.Mathlib.Omega.{arith}
 use lib.ListN.{length, get_or}
 use Rattle.codes.specs.Codes.{char_at, chars}
-use Rattle.codes.specs.Refusals.{if_done}
+use Rattle.codes.specs.Refusals.{if_done, Outcome}
 use Rattle.codes.specs.Windows.{window}
-use Rattle.codes.specs.declared.refusals.Outcome.{Outcome}
-use Rattle.codes.specs.declared.refusals.Outcome.TheVariants.{Done}
-use Rattle.codes.proofs.WidthLaws.{width_1}
+use Rattle.codes.specs.Widths.{width_1}
 use Rattle.stores.specs.Changes.{run_start, run_end, Overwrites}
 use Rattle.stores.specs.History.{Store, flags_of}
 use Rattle.stores.specs.Stores.{Call, clear, push_ascii, push_seq, overwrite, cut, old_length, after}
@@ -26,7 +25,7 @@ use Rattle.counts.proofs.HistoryLaws.{done_store, refused_store}
 
 module _ (bs : List ℕ) (bytes : (b : ℕ) → get_or bs b 0 < 256) (len n : ℕ) where
   -- a byte that is not in the run of a call that is done
-  pub carried_written : (c : Call) (j : ℕ) → (Done ≡ counted_outcome (length bs) len n c → run_start 1 len c ≤ j → j < run_end 1 len c → ⊥)
+  pub carried_written : (c : Call) (j : ℕ) → ((Ok tt) ≡ counted_outcome (length bs) len n c → run_start 1 len c ≤ j → j < run_end 1 len c → ⊥)
       → get_or (bytes_after bs len n c) j 0 ≡ get_or bs j 0
   unfolding bytes_after
   carried_written c j h =
@@ -49,7 +48,7 @@ old_window bs len (overwrite at ls) p k lo b = refl
 old_window bs len (cut n) p k lo b = refl
 
 pub carried_windows_kept : (s : Counted) (c : Call) (p k : ℕ) → 1 ≤ k → k ≤ 96 → p + k ≤ s.store.len → p + k ≤ (step s c).store.len
-    → ((i : ℕ) → p ≤ i → i < p + k → Done ≡ counted_outcome (length s.store.bytes) s.store.len (length s.entries) c → Overwrites c i → ⊥)
+    → ((i : ℕ) → p ≤ i → i < p + k → (Ok tt) ≡ counted_outcome (length s.store.bytes) s.store.len (length s.entries) c → Overwrites c i → ⊥)
     → window (flags_of (step s c).store) p k ≡ window (flags_of s.store) p k
 carried_windows_kept s c p k lo hi a b h =
     let o : Outcome = counted_outcome (length s.store.bytes) s.store.len (length s.entries) c in
@@ -62,6 +61,6 @@ carried_windows_kept s c p k lo hi a b h =
     (old_window s.store.bytes s.store.len c p k lo) b)
     refl
 
-pub carried_windows_right : (bs : List ℕ) (old : ℕ) (entries : List ℕ) → counted_outcome (length bs) 0 (length entries) clear ≡ Done → (cs : List Call) (p k : ℕ) → 1 ≤ k → k ≤ 96
+pub carried_windows_right : (bs : List ℕ) (old : ℕ) (entries : List ℕ) → counted_outcome (length bs) 0 (length entries) clear ≡ Ok tt → (cs : List Call) (p k : ℕ) → 1 ≤ k → k ≤ 96
     → window (flags_of (run (step (record { store = record { bytes = bs; len = old }; entries = entries }) clear) cs).store) p k ≡ window (history (length bs) (length entries) [] cs) p k
 carried_windows_right bs old entries e cs p k lo hi = ap (λ (f : List ℕ). window f p k) (Histories.history bs old entries e cs).packed.chars-are

@@ -2,6 +2,7 @@
 -- Refused, it gives its number and 0 whatever they are. After an accepted clear and any of these calls it is the plain count of the flags which the calls
 -- alone give, and only its range is judged.
 -- Assumes nothing.
+use Rattle.std.specs.Prelude.{Ok}
 use mathlib.Core.List.{List, [], ◌∷◌}
 use mathlib.Core.Path.{◌≡◌, refl, sym, ap, ap₂, ◌∙◌}
 use Prim.Native.Nat.{ℕ, zero, suc, ◌+◌, ◌-◌, ◌*◌, ◌/◌, ◌^◌, ◌≤◌, min}
@@ -11,7 +12,6 @@ use lib.ListN.{length}
 use lib.Seq.{slice}
 use Rattle.codes.specs.Codes.{up, trailing, chars}
 use Rattle.codes.specs.Refusals.{answer, first, bad_end, bad_start}
-use Rattle.codes.specs.declared.refusals.Outcome.TheVariants.{Done}
 use Rattle.codes.proofs.CharLaws.{length-chars}
 use Rattle.codes.proofs.WidthLaws.{below_or}
 use Rattle.fields.specs.Flags.{sum, set_flags}
@@ -72,11 +72,11 @@ counted bs len entries start end R =
     let ends : end ≤ len = ltb-false len end p.1.1.0 in
     let starts : start ≤ end = ltb-false end start p.1.1.1.0 in
     let many : blocks len ≤ length entries = ltb-false (length entries) (blocks len) p.1.1.1.1.0 in
-    ap (λ (n : ℕ). answer Done n 0) (range_counted entries flags (omega arith) R start end starts (omega arith)))
+    ap (λ (n : ℕ). answer (Ok tt) n 0) (range_counted entries flags (omega arith) R start end starts (omega arith)))
     (λ r e. refl)
 
 -- after a clear that is accepted and the calls cs
-module _ (bs : List ℕ) (old : ℕ) (entries : List ℕ) (e : counted_outcome (length bs) 0 (length entries) clear ≡ Done) (cs : List Call) where
+module _ (bs : List ℕ) (old : ℕ) (entries : List ℕ) (e : counted_outcome (length bs) 0 (length entries) clear ≡ Ok tt) (cs : List Call) where
   abbrev s : Counted
   s = run (step (record { store = record { bytes = bs; len = old }; entries = entries }) clear) cs
 

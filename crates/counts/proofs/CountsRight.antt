@@ -1,6 +1,7 @@
 -- Entries that were right for the old length are right for the new one after any call, refused or not: a block that the call does not touch
 -- has the flags that it had, and one that it touches is counted afresh.
 -- Assumes nothing.
+use Rattle.std.specs.Prelude.{Ok}
 use mathlib.Core.Bool.{Bool, true, false}
 use mathlib.Core.List.{List, [], ◌∷◌}
 use mathlib.Core.Path.{◌≡◌, refl, sym, ap, ◌∙◌, subst}
@@ -9,9 +10,8 @@ use native.Mathlib.Omega.{arith}
 use borrow.Author.Tests.{ltb-false}
 use lib.ListN.{length, get_or, length-map}
 use Rattle.codes.specs.Codes.{chars, code}
-use Rattle.codes.specs.declared.refusals.Outcome.TheVariants.{Done}
 use Rattle.codes.proofs.CharLaws.{length-chars, chars-ext}
-use Rattle.codes.proofs.WidthLaws.{width_1}
+use Rattle.codes.specs.Widths.{width_1}
 use Rattle.fields.specs.Flags.{set_flags}
 use Rattle.runs.proofs.SeqLaws.{seq_end}
 use Rattle.stores.specs.Changes.{Overwrites}
@@ -58,14 +58,14 @@ pub right_none : (entries bs : List ℕ) → Right entries (chars 1 bs 0 0)
 right_none entries bs b l k = let none : length (chars 1 bs 0 0) ≡ 0 = length-chars 1 bs 0 0 in absurd (omega arith)
 
 -- a call that is done
-module _ (bs : List ℕ) (len : ℕ) (entries : List ℕ) (call : Call) (R : Right entries (chars 1 bs 0 len)) (e : counted_outcome (length bs) len (length entries) call ≡ Done) where
+module _ (bs : List ℕ) (len : ℕ) (entries : List ℕ) (call : Call) (R : Right entries (chars 1 bs 0 len)) (e : counted_outcome (length bs) len (length entries) call ≡ Ok tt) where
   abbrev n : ℕ
   n = (span 1 len call).2
 
   abbrev flags : List ℕ
   flags = new_flags bs len call
 
-  plain : outcome 1 (length bs) len call ≡ Done
+  plain : outcome 1 (length bs) len call ≡ Ok tt
   plain = (done_both bs len entries call e).0
 
   span-is : (answered 1 (length bs) len call).values.2 ≡ n

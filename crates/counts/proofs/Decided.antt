@@ -7,7 +7,7 @@ use Rattle.codes.specs.Refusals.{Answer}
 use Rattle.codes.proofs.Permitted.{Decided, Once, skip}
 use Rattle.codes.proofs.RefusalLaws.{Told, says-once}
 use Rattle.stores.proofs.AnswerLaws.{pushed_told, kept_told}
-use Rattle.counts.proofs.AnswerLaws.{count_told}
+use Rattle.codes.proofs.AnswerLaws.{told}
 use Rattle.counts.proofs.flags.clear.Kinds as clear·kinds
 use Rattle.counts.proofs.flags.clear.Reads as clear
 use Rattle.counts.proofs.flags.push_ascii.Kinds as push-ascii·kinds
@@ -42,4 +42,4 @@ pub cut_decided : Once 2 cut·kinds.ps cut·kinds.r cut.Post
 cut_decided κs a x y v w p q = λ i. let e = once kept_told x y p q i in (e.0, (e.1.0, skip 1 (e.1.1, skip 1 tt)))
 
 pub count_decided : Decided 2 count·kinds.ps count·kinds.r count.Post
-count_decided κs a x y s t p q = says-once count_told x y (p ∙ sym q)
+count_decided κs a x y s t p q = says-once told x y (p ∙ sym q)

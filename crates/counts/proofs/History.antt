@@ -2,12 +2,12 @@
 -- the flags that the calls alone give, packed afresh, as `Packed` says; there is an entry for each block, and every entry up to the last block is the
 -- count of its block of these flags.
 -- Assumes nothing.
+use Rattle.std.specs.Prelude.{Ok}
 use mathlib.Core.List.{List, []}
 use mathlib.Core.Path.{◌≡◌, subst}
 use Prim.Native.Nat.{ℕ, ◌≤◌}
 use lib.ListN.{length}
-use Rattle.codes.specs.declared.refusals.Outcome.TheVariants.{Done}
-use Rattle.codes.proofs.WidthLaws.{width_1}
+use Rattle.codes.specs.Widths.{width_1}
 use Rattle.stores.specs.History.{Packed}
 use Rattle.stores.specs.Stores.{Call, clear}
 use Rattle.stores.proofs.History.{kept_packed}
@@ -23,7 +23,7 @@ pub record Holds (m : ℕ) (s : Counted) (h : List ℕ) : Type 0 where
   pub enough : blocks (length h) ≤ length s.entries
   pub right : Right s.entries h
 
-pub history : (bs : List ℕ) (old : ℕ) (entries : List ℕ) → counted_outcome (length bs) 0 (length entries) clear ≡ Done → (cs : List Call)
+pub history : (bs : List ℕ) (old : ℕ) (entries : List ℕ) → counted_outcome (length bs) 0 (length entries) clear ≡ Ok tt → (cs : List Call)
     → Holds (length bs) (run (step (record { store = record { bytes = bs; len = old }; entries = entries }) clear) cs)
     (Histories.history (length bs) (length entries) [] cs)
 history bs old entries e cs =

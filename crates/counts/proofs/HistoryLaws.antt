@@ -1,5 +1,6 @@
 -- The laws of a history: each call leaves the store that the plain call does, or the store as it was, and as many entries.
 -- Assumes nothing.
+use Rattle.std.specs.Prelude.{Ok, Err}
 use mathlib.Core.List.{List, [], ◌∷◌}
 use mathlib.Core.Path.{◌≡◌, refl, sym, ap, ◌∙◌, subst}
 use Prim.Native.Nat.{ℕ, ◌≤◌, zero-le}
@@ -7,11 +8,9 @@ use native.Mathlib.Nat.{le_refl}
 use native.Mathlib.Omega.{arith}
 use lib.ListN.{length}
 use Rattle.codes.specs.Codes.{chars}
-use Rattle.codes.specs.Refusals.{if_done}
-use Rattle.codes.specs.declared.refusals.Outcome.{Outcome}
-use Rattle.codes.specs.declared.refusals.Outcome.TheVariants.{Done, Refused}
+use Rattle.codes.specs.Refusals.{if_done, Outcome}
 use Rattle.codes.specs.declared.refusals.Refusal.{Refusal}
-use Rattle.codes.proofs.WidthLaws.{width_1}
+use Rattle.codes.specs.Widths.{width_1}
 use Rattle.stores.specs.History.{Store, chars_after}
 use Rattle.stores.specs.History as Plain
 use Rattle.stores.specs.Stores.{Call, Edit, clear, push_ascii, push_seq, overwrite, cut, outcome, still, deed, old_length}
@@ -33,11 +32,11 @@ entries_length bs len entries call =
     (counted_outcome (length bs) len (length entries) call) (λ e. recounted-length entries (touched len (deed 1 len call)) (new_flags bs len call)) (λ r e. refl)
 
 -- a call that is done leaves the store that the plain call leaves
-pub done_store : (s : Counted) (call : Call) → counted_outcome (length s.store.bytes) s.store.len (length s.entries) call ≡ Done → Plain.step 1 s.store call ≡ (step s call).store
+pub done_store : (s : Counted) (call : Call) → counted_outcome (length s.store.bytes) s.store.len (length s.entries) call ≡ Ok tt → Plain.step 1 s.store call ≡ (step s call).store
 done_store s call e = let left = done_left s.store.bytes s.store.len s.entries call e in λ i. record { bytes = left.1.0 i; len = (left.0 i).values.2 }
 
 -- one that is refused leaves every byte, and the old length
-pub refused_store : (s : Counted) (call : Call) (r : Refusal) → counted_outcome (length s.store.bytes) s.store.len (length s.entries) call ≡ Refused r
+pub refused_store : (s : Counted) (call : Call) (r : Refusal) → counted_outcome (length s.store.bytes) s.store.len (length s.entries) call ≡ Err r
     → record { bytes = s.store.bytes; len = old_length s.store.len call } ≡ (step s call).store
 refused_store s call r e = let left = refused_left s.store.bytes s.store.len s.entries call r e in λ i. record { bytes = left.1.0 i; len = (left.0 i).values.2 }
 
@@ -52,15 +51,15 @@ module _ (s : Counted) (h : List ℕ) (m n : ℕ) (K : Kept width_1 s.store h m)
   judged : counted_outcome (length bs) len (length s.entries) c ≡ counted_outcome m (length h) n c
   judged = λ i. counted_outcome (K.size i) (K.lengths i) (E i) c
 
-  step_done : counted_outcome (length bs) len (length s.entries) c ≡ Done → Kept width_1 (step s c).store (chars_after h (edit m n (length h) c)) m
+  step_done : counted_outcome (length bs) len (length s.entries) c ≡ Ok tt → Kept width_1 (step s c).store (chars_after h (edit m n (length h) c)) m
   step_done e =
-      let plain : outcome 1 m (length h) c ≡ Done = sym (λ i. outcome 1 (K.size i) (K.lengths i) c) ∙ (done_both bs len s.entries c e).0 in
+      let plain : outcome 1 m (length h) c ≡ Ok tt = sym (λ i. outcome 1 (K.size i) (K.lengths i) c) ∙ (done_both bs len s.entries c e).0 in
       let same : Stores.edit 1 m (length h) c ≡ edit m n (length h) c = ap (λ (o : Outcome). if_done o (deed 1 (length h) c) still) (plain ∙ sym (sym judged ∙ e)) in
       subst (λ (t : Store). Kept width_1 t (chars_after h (edit m n (length h) c)) m) (done_store s c e)
       (subst (λ (x : Edit). Kept width_1 (Plain.step 1 s.store c) (chars_after h x) m) same (Kepts.run-kept width_1 (c ∷ []) s.store h m K))
 
   -- no clear of such a store is refused
-  old_length_lem : (c : Call) (r : Refusal) → counted_outcome (length bs) len (length s.entries) c ≡ Refused r → old_length len c ≡ len
+  old_length_lem : (c : Call) (r : Refusal) → counted_outcome (length bs) len (length s.entries) c ≡ Err r → old_length len c ≡ len
   old_length_lem clear r e =
       let d = plain-enough bs len s.entries clear (sym (clear_done 1 (length bs) len K.holds.small (omega (arith, K.holds.room)))) zero-le in
       let z : ◌≡◌ {A = ℕ} 0 1 = cc in
@@ -70,7 +69,7 @@ module _ (s : Counted) (h : List ℕ) (m n : ℕ) (K : Kept width_1 s.store h m)
   old_length_lem (overwrite at ls) r e = refl
   old_length_lem (cut k) r e = refl
 
-  step_refused : (r : Refusal) → counted_outcome (length bs) len (length s.entries) c ≡ Refused r → Kept width_1 (step s c).store (chars_after h (edit m n (length h) c)) m
+  step_refused : (r : Refusal) → counted_outcome (length bs) len (length s.entries) c ≡ Err r → Kept width_1 (step s c).store (chars_after h (edit m n (length h) c)) m
   step_refused r e =
       let left : s.store ≡ (step s c).store = (λ i. record { bytes = bs; len = sym (old_length_lem c r e) i }) ∙ refused_store s c r e in
       subst (λ (t : Store). Kept width_1 t (chars_after h (edit m n (length h) c)) m) left
@@ -117,7 +116,7 @@ run-enough [] s h = h
 run-enough (c ∷ cs) s h = run-enough cs (step s c) (step_enough s c h)
 
 -- the store and the entries that an accepted clear leaves
-module _ (bs : List ℕ) (old : ℕ) (entries : List ℕ) (e : counted_outcome (length bs) 0 (length entries) clear ≡ Done) where
+module _ (bs : List ℕ) (old : ℕ) (entries : List ℕ) (e : counted_outcome (length bs) 0 (length entries) clear ≡ Ok tt) where
   abbrev pub cleared : Counted
   cleared = step (record { store = record { bytes = bs; len = old }; entries = entries }) clear
 

@@ -8,7 +8,6 @@ pub mod History
 pub mod Counted
 pub mod Mixed
 pub mod Carried
-pub mod AnswerLaws
 pub mod Lowest
 pub mod Viewed
 pub mod Untouched

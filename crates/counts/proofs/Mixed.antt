@@ -1,12 +1,12 @@
 -- After a clear of either form that is accepted and any mix of plain calls and of calls that carry entries, any entries each time, refused calls among them:
 -- the store holds the flags that the calls alone give, packed afresh, as `Packed` says.
 -- Assumes nothing.
+use Rattle.std.specs.Prelude.{Ok}
 use mathlib.Core.List.{List, [], ◌∷◌}
 use mathlib.Core.Path.{◌≡◌, refl, sym, subst}
 use Prim.Native.Nat.{ℕ}
 use lib.ListN.{length}
-use Rattle.codes.specs.declared.refusals.Outcome.TheVariants.{Done}
-use Rattle.codes.proofs.WidthLaws.{width_1}
+use Rattle.codes.specs.Widths.{width_1}
 use Rattle.stores.specs.History.{Store, Packed}
 use Rattle.stores.specs.Stores.{Call, clear}
 use Rattle.stores.proofs.History.{kept_packed}
@@ -21,14 +21,14 @@ mixed_kept (plain c ∷ fs) s h m K = mixed_kept fs (form_step s (plain c)) _ m 
 mixed_kept (carrying es c ∷ fs) s h m K =
     mixed_kept fs (form_step s (carrying es c)) _ m (run-kept (c ∷ []) (record { store = s; entries = es }) h m (length es) K refl)
 
-first_kept : (bs : List ℕ) (old : ℕ) (f : Form) → call_of f ≡ clear → form_outcome (length bs) 0 f ≡ Done → Kept width_1 (form_step (record { bytes = bs; len = old }) f) [] (length bs)
+first_kept : (bs : List ℕ) (old : ℕ) (f : Form) → call_of f ≡ clear → form_outcome (length bs) 0 f ≡ Ok tt → Kept width_1 (form_step (record { bytes = bs; len = old }) f) [] (length bs)
 first_kept bs old (plain c) p =
-    subst (λ (x : Call). form_outcome (length bs) 0 (plain x) ≡ Done → Kept width_1 (form_step (record { bytes = bs; len = old }) (plain x)) [] (length bs)) (sym p)
+    subst (λ (x : Call). form_outcome (length bs) 0 (plain x) ≡ Ok tt → Kept width_1 (form_step (record { bytes = bs; len = old }) (plain x)) [] (length bs)) (sym p)
     (clear_kept width_1 bs old)
 first_kept bs old (carrying es c) p =
-    subst (λ (x : Call). form_outcome (length bs) 0 (carrying es x) ≡ Done → Kept width_1 (form_step (record { bytes = bs; len = old }) (carrying es x)) [] (length bs)) (sym p)
+    subst (λ (x : Call). form_outcome (length bs) 0 (carrying es x) ≡ Ok tt → Kept width_1 (form_step (record { bytes = bs; len = old }) (carrying es x)) [] (length bs)) (sym p)
     (cleared_kept bs old es)
 
-pub mixed : (bs : List ℕ) (old : ℕ) (f : Form) → call_of f ≡ clear → form_outcome (length bs) 0 f ≡ Done → (fs : List Form)
+pub mixed : (bs : List ℕ) (old : ℕ) (f : Form) → call_of f ≡ clear → form_outcome (length bs) 0 f ≡ Ok tt → (fs : List Form)
     → Packed 1 (length bs) (form_run (form_step (record { bytes = bs; len = old }) f) fs) (form_history (length bs) [] fs)
 mixed bs old f p e fs = kept_packed width_1 (mixed_kept fs _ [] (length bs) (first_kept bs old f p e))

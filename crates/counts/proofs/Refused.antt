@@ -4,7 +4,7 @@
 use Rattle.codes.proofs.Permitted.{Refuses, skip}
 use Rattle.codes.proofs.RefusalLaws.{refused_keeps}
 use Rattle.stores.specs.Answers.{pushed_says, kept_says}
-use Rattle.counts.specs.Answers.{count_says}
+use Rattle.codes.specs.Answers.{says}
 use Rattle.counts.specs.Counts.{counted_outcome, counted_answer, bytes_after, entries_after, queried}
 use Rattle.counts.proofs.flags.clear.Kinds as clear·kinds
 use Rattle.counts.proofs.flags.clear.Reads as clear
@@ -39,6 +39,6 @@ pub cut_refused : Refuses 2 cut·kinds.ps cut·kinds.r cut.Post (λ κs. kept_sa
 unfolding counted_answer bytes_after entries_after counted_outcome
 cut_refused κs a x v p h = let n = rw p.0 at h in let e = simp refused_keeps at p in λ i. ((e.0 i).values, (e.1.0 i, skip 1 (e.1.1 i, skip 1 tt)))
 
-pub count_refused : Refuses 2 count·kinds.ps count·kinds.r count.Post (λ κs. count_says) (λ κs a. (0, skip 5 tt))
+pub count_refused : Refuses 2 count·kinds.ps count·kinds.r count.Post (λ κs. says) (λ κs a. (0, skip 5 tt))
 unfolding queried
 count_refused κs a x v p h = let n = rw p at h in rw (p, refused_keeps)

@@ -7,7 +7,7 @@ use native.Mathlib.Nat.{le_refl}
 use native.Mathlib.Omega.{arith}
 use lib.ListN.{length, length-map}
 use Rattle.codes.specs.Codes.{code}
-use Rattle.codes.proofs.WidthLaws.{width_1}
+use Rattle.codes.specs.Widths.{width_1}
 use Rattle.runs.specs.Runs.{seq_start}
 use Rattle.runs.proofs.SeqLaws.{seq_end}
 use Rattle.stores.specs.Stores.{push_ascii, push_seq, overwrite, cut, deed}

@@ -2,8 +2,7 @@
 -- Assumes nothing.
 use Rattle.std.specs.Prelude.{List, [], ◌∷◌, ◌++◌, ℕ, length}
 use Rattle.codes.specs.Codes.{chars}
-use Rattle.codes.specs.Refusals.{Test, Answer, answer, first, if_done, too_long, bad_store, bad_end, bad_start, no_room}
-use Rattle.codes.specs.declared.refusals.Outcome.{Outcome}
+use Rattle.codes.specs.Refusals.{Test, Answer, answer, first, if_done, too_long, bad_store, bad_end, bad_start, no_room, Outcome}
 use Rattle.stores.specs.Stores.{Call, tests, deed, span, old_length, answered, after}
 use Rattle.counts.specs.Blocks.{blocks, touched, recounted, range_count}
 

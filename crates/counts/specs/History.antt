@@ -2,9 +2,8 @@
 -- and histories in which these calls and the plain ones take turns.
 -- Assumes nothing.
 use Rattle.std.specs.Prelude.{List, [], ◌∷◌, ◌≡◌, ℕ, ◌<◌, length, get_or}
-use Rattle.codes.specs.Refusals.{if_done}
+use Rattle.codes.specs.Refusals.{if_done, Outcome}
 use Rattle.fields.specs.Flags.{set_flags}
-use Rattle.codes.specs.declared.refusals.Outcome.{Outcome}
 use Rattle.stores.specs.History.{Store, chars_after}
 use Rattle.stores.specs.History as Plain
 use Rattle.stores.specs.Stores.{Call, Edit, still, deed, outcome}

@@ -1,4 +1,3 @@
 pub mod Blocks
 pub mod Counts
-pub mod Answers
 pub mod History

@@ -2,6 +2,5 @@
 // a store carry the entries along, and a query goes by them; at width 1, in `flags`.
 #![tactic(auto)]
 
-pub mod answers;
 pub mod flags;
 pub mod inner;

@@ -18,7 +18,8 @@ use Rattle.codes.proofs.CharLaws.{length-chars, get_or-chars}
 use Rattle.codes.proofs.FieldLaws.{field_of, mod_low, char_at-is}
 use Rattle.codes.proofs.MadeLaws.{made-to, made-parts}
 use Rattle.codes.proofs.TabLaws.{length-tab, get_or-tab, tab-ext, chars_of-tab}
-use Rattle.codes.proofs.WidthLaws.{below_or, width_1, width_2}
+use Rattle.codes.specs.Widths.{width_1, width_2}
+use Rattle.codes.proofs.WidthLaws.{below_or}
 use Rattle.codes.proofs.WordLaws.{Below, length-chars_of}
 use Rattle.fields.proofs.WriteLaws.{made-sets}
 use Rattle.writes.proofs.LetterLaws.{map-tab}

@@ -1,2 +1,1 @@
-mod PartLaws
 pub mod Places

@@ -1,6 +1,7 @@
 -- The part that a call of the C face gives by numbers is the one that the call itself hands back: the same number and, at the same
 -- place, the same bytes, offset and length.
 -- Assumes nothing.
+use Rattle.std.specs.Prelude.{Ok, Err}
 use mathlib.Core.Bool.{Bool, true, false}
 use mathlib.Core.Path.{◌≡◌, refl, ap}
 use Prim.Native.Nat.{ℕ, ◌+◌, ◌-◌}
@@ -8,9 +9,7 @@ use native.Mathlib.Nat.{zero-add}
 use lib.ListN.{length, take, drop}
 use lib.Seq.{take-length}
 use Rattle.codes.specs.Codes.{pick}
-use Rattle.codes.specs.Refusals.{Answer, answer, first, view_tests}
-use Rattle.codes.specs.declared.refusals.Outcome.{Outcome}
-use Rattle.codes.specs.declared.refusals.Outcome.TheVariants.{Done, Refused}
+use Rattle.codes.specs.Refusals.{Answer, answer, first, view_tests, Outcome}
 use Rattle.order.specs.Order.{pair_outcome, pair_order, is_second, chosen}
 use Rattle.fields.specs.Fields.{slice_tests}
 use Rattle.fields.specs.Spans.{Span, normal_part}
@@ -28,8 +27,8 @@ lent_at s x = record { no = x.no; values = lent (span_at s x.values) x.values.2 
 
 -- an answer's part, by the outcome's case
 at_part : (q : Outcome) (s : Span) (p : Part) (t : Span) → span_at s p ≡ t → lent_at s (answer q p no_part) ≡ answer q (lent t p.2 p.3) (empty s)
-at_part Done s p t e = ap (λ (x : Span). answer Done (lent x p.2 p.3) (empty s)) e
-at_part (Refused r) s p t e = refl
+at_part (Ok tt) s p t e = ap (λ (x : Span). answer (Ok tt) (lent x p.2 p.3) (empty s)) e
+at_part (Err r) s p t e = refl
 
 module _ (w : ℕ) (s : Span) (o len : ℕ) where
   whole : span_at s (0, length s.bytes, o, len) ≡ s
@@ -58,6 +57,6 @@ module _ (w : ℕ) (s : Span) (ao al : ℕ) (t : Span) (bo bl : ℕ) where
     where
       by_case : (q : Outcome) (b : Bool) → lent_in (answer q (pick b (true, part_of w bo bl) (false, part_of w ao al)) (false, no_part)) ≡ answer q
           (pick b (normal w t bo bl) (normal w s ao al)) (empty s)
-      by_case Done true = refl
-      by_case Done false = refl
-      by_case (Refused r) b = refl
+      by_case (Ok tt) true = refl
+      by_case (Ok tt) false = refl
+      by_case (Err r) b = refl

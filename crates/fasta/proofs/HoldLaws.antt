@@ -1,12 +1,13 @@
 -- More letters for the open record: both tracks keep them where there are at most 16,384, and beyond that there are only too many.
 -- Assumes nothing.
+use Rattle.std.specs.Prelude.{Ok}
 use Rattle.std.proofs.Common.{◌≡◌, ℕ, ◌+◌, ◌^◌, ◌<◌, ◌≤◌, ltb, List, [], ◌∷◌, ◌++◌, map, length, sym, refl, ap, ◌∙◌, arith, length-append, ltb-false, ltb-true, le-ltb, lt-ltb}
 use mathlib.Core.List.{map-append}
 use Rattle.codes.specs.Codes.{IsWidth, up, trailing, chars, code}
 use Rattle.codes.specs.Refusals.{if_done}
-use Rattle.codes.specs.declared.refusals.Outcome.TheVariants.{Done}
 use Rattle.codes.proofs.CharLaws.{length-pack}
-use Rattle.codes.proofs.WidthLaws.{width_1, width_2, up-mono, below_or}
+use Rattle.codes.specs.Widths.{width_1, width_2}
+use Rattle.codes.proofs.WidthLaws.{up-mono, below_or}
 use Rattle.runs.specs.Runs.{written}
 use Rattle.stores.specs.Stores.{push_ascii, outcome, still, deed, buffer_after, after}
 use Rattle.stores.proofs.CallLaws.{by_outcome}
@@ -60,7 +61,7 @@ holds_none i bases flags = record { number = refl; long = refl; short = λ l. re
 
 -- a track of a record that gets more letters, where there is room
 module _ {w : ℕ} (W : IsWidth w) (bytes letters : List ℕ) (count : ℕ) (small : length bytes ≤ 2 ^ 28) (room : up w (count + length letters) + trailing ≤ length bytes) where
-  pushed : outcome w (length bytes) count (push_ascii letters) ≡ Done
+  pushed : outcome w (length bytes) count (push_ascii letters) ≡ Ok tt
   unfolding outcome
   pushed =
       rw (

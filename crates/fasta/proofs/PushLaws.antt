@@ -1,9 +1,9 @@
 -- What a push leaves in a store, read as characters: the old ones, then the new.
 -- Assumes nothing.
+use Rattle.std.specs.Prelude.{Ok}
 use Rattle.std.proofs.Common.{◌≡◌, ℕ, ◌+◌, ◌-◌, ◌*◌, ◌^◌, ◌<◌, ◌≤◌, List, [], ◌∷◌, ◌++◌, map, length, get_or, sym, ap, ◌∙◌, subst, ap₂, append-nil, add-zero, mul-le-mul_right, add-mul, arith, ext_get_or}
 use lib.ListN.{length-map}
 use Rattle.codes.specs.Codes.{IsWidth, per, up, trailing, char_at, chars, code}
-use Rattle.codes.specs.declared.refusals.Outcome.TheVariants.{Done}
 use Rattle.codes.proofs.CharLaws.{length-chars, get_or-chars, chars-append, chars-ext, char_at-lt, char_at-pack}
 use Rattle.codes.proofs.CodeLaws.{code_lt}
 use Rattle.codes.proofs.TabLaws.{Below-get_or}
@@ -43,7 +43,7 @@ module _ {w : ℕ} (W : IsWidth w) (bs : List ℕ) (at : ℕ) (cs : List ℕ) (f
       ∙ ap (λ (k : ℕ). get_or cs k 0) e))
 
 module _ {w : ℕ} (W : IsWidth w) (bs : List ℕ) (at : ℕ) where
-  pub push_chars : (ls : List ℕ) → outcome w (length bs) at (push_ascii ls) ≡ Done → up w (at + length ls) ≤ length bs
+  pub push_chars : (ls : List ℕ) → outcome w (length bs) at (push_ascii ls) ≡ Ok tt → up w (at + length ls) ≤ length bs
       → chars w (after w bs at (push_ascii ls)) 0 (at + length ls) ≡ chars w bs 0 at ++ map (code w) ls
   unfolding after
   push_chars [] e h = rw e (ap (chars w bs 0) (add-zero at) ∙ sym (append-nil (chars w bs 0 at)))

@@ -1,4 +1,5 @@
-// A part of the input fed to the reader, step by step, and what the steps write collected in a text.
+// A part of the input fed to the reader, step by step, and what the steps write collected in a text: a lent buffer and how much of it is in
+// use, as there is no heap.
 ghost use Rattle.std.specs.Prelude.{◌≡◌, true, drop};
 ghost use Rattle.fasta.specs.Steps.{too_short};
 ghost use Rattle.fasta.specs.Buffers.{other_at_end};
@@ -42,6 +43,7 @@ pub fn feed(
     let mut state = reader;
     let mut used: usize = 0;
     let mut end = filled;
+    // By what each step takes of the part: no fixed step.
     while used < part.len() {
         if is_full(text, end) {
             break;

@@ -5,7 +5,8 @@ ghost use Rattle.fasta.specs.Records.{at_most, lengthened};
 
 use crate::reader::{BASES, FLAGS, Record};
 use codes::units::Chars;
-use stores::{bases, flags};
+use codes::widths::{Bases, Flags};
+use stores::calls::push_ascii;
 
 // The sum, or 16,385 for any above 16,384.
 fn sum_at_most(count: usize, more: usize) -> usize
@@ -31,8 +32,8 @@ pub(crate) fn add_letters(
     ensures flags { flags.new ≡ after 1 flags.old kept.count (push_ascii letters.now) }
 {
     let count = Chars::new(kept.count);
-    bases::push_ascii(bases, count, letters);
-    flags::push_ascii(flags, count, letters);
+    let _ = push_ascii::<Bases>(bases, count, letters);
+    let _ = push_ascii::<Flags>(flags, count, letters);
     Record {
         number: kept.number,
         count: sum_at_most(kept.count, letters.len()),

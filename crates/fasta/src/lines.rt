@@ -20,6 +20,7 @@ pub(crate) fn line_end(part: &[u8]) -> usize
     ensures { result ≡ line_end part.now }
 {
     let mut i: usize = 0;
+    // The loop behind goes on where this one stops.
     while 8 <= part.len() - i {
         let z = line_feeds(load64(part, i));
         if z != 0 {
@@ -27,13 +28,12 @@ pub(crate) fn line_end(part: &[u8]) -> usize
         }
         i += 8;
     }
-    while i < part.len() {
-        if part[i] == b'\n' {
-            return i;
+    for at in i..part.len() {
+        if part[at] == b'\n' {
+            return at;
         }
-        i += 1;
     }
-    i
+    part.len()
 }
 
 // The number of bytes of a line's content: all of them, or all but the CR that ends it.

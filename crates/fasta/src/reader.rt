@@ -14,7 +14,7 @@ pub const FLAGS: usize = 2096;
 
 pub const OUT: usize = 96;
 
-// The open record: the records before it, and its letters (16,385 for any number above 16,384).
+// The open record: the records before it, and its letters (16,385 for any number above 16,384, as `at_most` says).
 #[derive(Clone, Copy)]
 pub struct Record {
     pub number: u64,

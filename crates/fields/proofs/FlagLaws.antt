@@ -11,7 +11,7 @@ use Rattle.codes.specs.Codes.{chars}
 use Rattle.codes.specs.Words.{word}
 use Rattle.codes.proofs.CharLaws.{length-chars, chars-append, chars-fit}
 use Rattle.codes.proofs.FieldLaws.{word-chars}
-use Rattle.codes.proofs.WidthLaws.{width_1}
+use Rattle.codes.specs.Widths.{width_1}
 use Rattle.codes.proofs.WordLaws.{Below}
 use Rattle.fields.specs.Flags.{sum, set_flags}
 

@@ -1,5 +1,6 @@
 -- Where a view's bits and words stand in its bytes, what its word's length may be, and the bytes of a word that was loaded.
 -- Assumes nothing.
+use Rattle.std.specs.Prelude.{Ok}
 use mathlib.Core.List.{List, [], ◌∷◌}
 use mathlib.Core.Path.{◌≡◌, sym, ap, ap₂, ◌∙◌, subst₂}
 use Prim.Native.Nat.{ℕ, ◌+◌, ◌*◌, ◌/◌, ◌%◌, ◌^◌, ◌≤◌, ◌<◌, zero-le}
@@ -9,13 +10,11 @@ use lib.ListN.{length, get_or}
 use lib.Pow.{shr-shr}
 use Rattle.codes.specs.Codes.{per, IsWidth, chars, trailing}
 use Rattle.codes.specs.Refusals.{first, bad_word, view_tests}
-use Rattle.codes.specs.declared.refusals.Outcome.TheVariants.{Done}
 use Rattle.codes.specs.Words.{word, chars_of}
 use Rattle.codes.proofs.FieldLaws.{field_of, word-chars}
 use Rattle.codes.proofs.OutcomeLaws.{first_both, passed}
 use Rattle.codes.proofs.RefusalLaws.{word_in}
 use Rattle.codes.proofs.TabLaws.{Below-of, get_or-tab, chars_of-tab, word_at}
-use Rattle.codes.proofs.WidthLaws.{below_or, whole}
 use Rattle.codes.proofs.WordLaws.{Below}
 use Rattle.fields.specs.Fields.{word_tests}
 use Rattle.fields.proofs.ViewLaws.{view_accepted, room_sum}
@@ -26,7 +25,7 @@ pub record Bits (w n o len : ℕ) : Type 0 where
   pub room : w * o + w * len + 384 ≤ 8 * n
   pub short : o + len ≤ 2 ^ 31
 
-pub view_bits : {w : ℕ} → IsWidth w → (n o len : ℕ) → first (view_tests w n o len) ≡ Done → Bits w n o len
+pub view_bits : {w : ℕ} → IsWidth w → (n o len : ℕ) → first (view_tests w n o len) ≡ Ok tt → Bits w n o len
 view_bits {w} W n o len e =
     let h = view_accepted w n o len e in
     let behind : w * (trailing * per w) ≡ 384 = mul_left_comm w trailing (per w) ∙ ap (λ (x : ℕ). trailing * x) W.whole in
@@ -42,7 +41,7 @@ view_word w n o len i p h l e =
     (omega (arith, h.room), omega (arith, h.room, h.few))
 
 -- an accepted view's bits begin within its bytes, and are its word; the code's numbers are o' and len'
-module _ {w : ℕ} (W : IsWidth w) (bs : List ℕ) (o len : ℕ) (e : first (view_tests w (length bs) o len) ≡ Done) (o' : ℕ) (eo : o' ≡ o) where
+module _ {w : ℕ} (W : IsWidth w) (bs : List ℕ) (o len : ℕ) (e : first (view_tests w (length bs) o len) ≡ Ok tt) (o' : ℕ) (eo : o' ≡ o) where
   pub view_start : (w * o' / 8 + 17 ≤ length bs) × (w * o' < 2 ^ 31)
   view_start =
       let p = view_word w (length bs) o len 0 (w * o') (view_bits W (length bs) o len e) zero-le (ap (λ (x : ℕ). w * x) (eo ∙ sym (add-zero o))) in
@@ -51,17 +50,13 @@ module _ {w : ℕ} (W : IsWidth w) (bs : List ℕ) (o len : ℕ) (e : first (vie
   pub view_field : ((i : ℕ) → get_or bs i 0 < 2 ^ 8) → (len' : ℕ) → len' ≡ len → word 8 bs / 2 ^ (w * o') % 2 ^ (w * len') ≡ word w (chars w bs o len)
   view_field b len' el = ap₂ (λ (p q : ℕ). word 8 bs / 2 ^ (w * p) % 2 ^ (w * q)) eo el ∙ sym (word-chars W bs (Below-of 8 bs b) o len)
 
--- 56 bits hold one character or more
-pub turn_pos : {w : ℕ} → IsWidth w → 0 < 56 / w
-turn_pos {w} W = below_or 0 (56 / w) (λ h. h) (λ h. let e : 56 / w ≡ 0 = omega arith in let z : 56 ≡ w * 0 = sym (whole W 7) ∙ ap (λ (x : ℕ). w * x) e in absurd (omega arith))
-
 -- a view whose word is not refused
 pub record Wordy (w n o len least bits : ℕ) : Type 0 where
-  pub view : first (view_tests w n o len) ≡ Done
+  pub view : first (view_tests w n o len) ≡ Ok tt
   pub low : least ≤ len
   pub fits : w * len ≤ bits
 
-pub word-open : (w n o len least bits : ℕ) → first (word_tests w n o len least bits) ≡ Done → Wordy w n o len least bits
+pub word-open : (w n o len least bits : ℕ) → first (word_tests w n o len least bits) ≡ Ok tt → Wordy w n o len least bits
 word-open w n o len least bits e =
     let b = first_both (view_tests w n o len) (bad_word least (bits / w) len ∷ []) e in
     let i = word_in least (bits / w) len (passed _ _ _ b.1).0 in

@@ -15,7 +15,8 @@ use Rattle.codes.specs.Codes.{pick, chars}
 use Rattle.codes.specs.Words.{word}
 use Rattle.codes.proofs.CharLaws.{length-chars, chars-append, chars-fit}
 use Rattle.codes.proofs.FieldLaws.{word-chars, mod_low}
-use Rattle.codes.proofs.WidthLaws.{width_1, below_or}
+use Rattle.codes.specs.Widths.{width_1}
+use Rattle.codes.proofs.WidthLaws.{below_or}
 use Rattle.codes.proofs.WordLaws.{Below, Below-drop}
 use Rattle.fields.specs.Runs.{Run, joined, runs_from, leading}
 

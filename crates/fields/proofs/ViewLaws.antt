@@ -1,7 +1,11 @@
 -- The laws of one view: what an accepted view has room for, that normalising keeps its characters, the answers of `got`, and what an accepted slice has.
 -- Assumes nothing.
+use Rattle.codes.proofs.AnswerLaws.{told_by}
+use Rattle.codes.proofs.RefusalLaws.{Told}
+use Rattle.fields.specs.Answers.{numbers_say}
+use Rattle.std.specs.Prelude.{Ok}
 use mathlib.Core.List.{List, [], ◌∷◌, ◌++◌}
-use mathlib.Core.Path.{◌≡◌, sym, ap, ◌∙◌, subst}
+use mathlib.Core.Path.{◌≡◌, refl, sym, ap, ◌∙◌, subst}
 use Prim.Native.Nat.{ℕ, ◌+◌, ◌-◌, ◌*◌, ◌/◌, ◌%◌, ◌^◌, ◌≤◌, ◌<◌}
 use native.Mathlib.Nat.{le_of_mul-le-mul_right, div-lt_iff_lt-mul, le-div_iff_mul-le, div-mul-le_self, add_assoc, div-add-mod', mul-add-div_right, mul-add-mod_self_right}
 use native.Mathlib.Omega.{arith}
@@ -11,7 +15,6 @@ use lib.Seq.{length-take-le, get_or-take, get_or-drop}
 use borrow.Author.Tests.{ltb-false, leb-false}
 use Rattle.codes.specs.Codes.{per, up, trailing, IsWidth, char_at, chars}
 use Rattle.codes.specs.Refusals.{first, bad_index, bad_end, bad_start, view_tests}
-use Rattle.codes.specs.declared.refusals.Outcome.TheVariants.{Done}
 use Rattle.codes.proofs.CharLaws.{chars-ext}
 use Rattle.codes.proofs.OutcomeLaws.{passed, first_both}
 use Rattle.codes.proofs.Viewed.{view_passed}
@@ -24,7 +27,7 @@ pub record Room (w n o len : ℕ) : Type 0 where
   pub small : n ≤ 2 ^ 28
   pub fits : o + len + trailing * per w ≤ n * per w
 
-pub view_accepted : (w n o len : ℕ) → first (view_tests w n o len) ≡ Done → Room w n o len
+pub view_accepted : (w n o len : ℕ) → first (view_tests w n o len) ≡ Ok tt → Room w n o len
 view_accepted w n o len e =
     let p = view_passed w n o len e in
     record { small = ltb-false (2 ^ 28) n p.0; fits = ltb-false (n * per w) (o + len + trailing * per w) p.1 }
@@ -90,7 +93,7 @@ pub record Within (w n o len i : ℕ) : Type 0 where
   pub room : Room w n o len
   pub below : i < len
 
-pub index_within : (w n o len i : ℕ) → first (view_tests w n o len ++ bad_index len i ∷ []) ≡ Done → Within w n o len i
+pub index_within : (w n o len i : ℕ) → first (view_tests w n o len ++ bad_index len i ∷ []) ≡ Ok tt → Within w n o len i
 index_within w n o len i e =
     let b = first_both (view_tests w n o len) (bad_index len i ∷ []) e in
     record { room = view_accepted w n o len b.0; below = leb-false len i (passed (leb len i) _ _ b.1).0 }
@@ -101,9 +104,13 @@ pub record Cut (w n o len start end : ℕ) : Type 0 where
   pub ends : end ≤ len
   pub starts : start ≤ end
 
-pub slice_cut : (w n o len start end : ℕ) → first (slice_tests w n o len start end) ≡ Done → Cut w n o len start end
+pub slice_cut : (w n o len start end : ℕ) → first (slice_tests w n o len start end) ≡ Ok tt → Cut w n o len start end
 slice_cut w n o len start end e =
     let b = first_both (view_tests w n o len) (bad_end len end ∷ bad_start start end ∷ []) e in
     let p = passed (ltb len end) _ _ b.1 in
     let q = passed (ltb end start) _ _ p.1 in
     record { room = view_accepted w n o len b.0; ends = ltb-false len end p.0; starts = ltb-false end start q.0 }
+
+-- the numbers of a part can be made again from what they say
+pub numbers_told : Told numbers_say
+numbers_told = told_by (λ n. (n.offset.0, n.len.0)) (0, 0) (λ v. record { offset = record { 0 = v.0 }; len = record { 0 = v.1 } }) (λ n. refl)

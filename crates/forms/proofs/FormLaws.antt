@@ -1,8 +1,8 @@
 -- A form is written part by part; and it is judged part by part.
 -- Assumes nothing.
+use Rattle.std.specs.Prelude.{Some, None}
 use mathlib.Core.Bool.{Bool, true, false, ◌&&◌}
 use mathlib.Core.List.{List, [], ◌∷◌, ◌++◌, append_assoc}
-use mathlib.Core.Option.{some, none}
 use mathlib.Core.Path.{◌≡◌, refl, sym, ap, ap₂, ◌∙◌, subst}
 use Prim.Native.Nat.{ℕ, suc, ◌+◌, ◌^◌, ◌≤◌, ◌<◌}
 use native.Mathlib.Nat.{add_assoc}
@@ -13,7 +13,7 @@ use borrow.Author.Tests.{eq-eqb, ne_eqb, le-leb, lt-leb}
 use Rattle.codes.specs.Codes.{up, pick, chars}
 use Rattle.codes.specs.Words.{packed}
 use Rattle.codes.proofs.CharLaws.{length-chars}
-use Rattle.codes.proofs.WidthLaws.{width_2}
+use Rattle.codes.specs.Widths.{width_2}
 use Rattle.codes.proofs.WordLaws.{Below}
 use Rattle.forms.specs.Forms.{stored, form_size}
 use Rattle.forms.specs.Reading.{head_of, sound_from, length_of, spare_clear, right_tracks, is_form, form_length}
@@ -48,12 +48,12 @@ module _ (xs : List ℕ) (ao : ℕ) (ys : List ℕ) (bo n : ℕ) (old : List ℕ
 
 -- ---- the head of a form
 
-pub head_empty : (bs : List ℕ) → length bs ≡ 0 → none ≡ head_of bs
+pub head_empty : (bs : List ℕ) → length bs ≡ 0 → None ≡ head_of bs
 unfolding head_of
 head_empty [] e = refl
 head_empty (b ∷ bs) e = absurd (omega arith)
 
-pub head_other : (bs : List ℕ) → (get_or bs 0 0 ≡ 1 → ⊥) → none ≡ head_of bs
+pub head_other : (bs : List ℕ) → (get_or bs 0 0 ≡ 1 → ⊥) → None ≡ head_of bs
 unfolding head_of
 head_other [] h = refl
 head_other (b ∷ bs) h = rw (ne_eqb b 1 h)
@@ -68,48 +68,48 @@ unfolding head_of
 head_fits [] h = tt
 head_fits (b ∷ bs) h = by (eqb b 1)
   where
-    by : (t : Bool) → Fits 5 (pick t (spelling 5 bs) none)
+    by : (t : Bool) → Fits 5 (pick t (spelling 5 bs) None)
     by true = spelling-fits 5 bs h.1
     by false = tt
 
 -- ---- whether bytes are a form, where the head is known
 
-pub is_form-none : (bs : List ℕ) → head_of bs ≡ none → is_form bs ≡ false
+pub is_form-none : (bs : List ℕ) → head_of bs ≡ None → is_form bs ≡ false
 unfolding is_form
 is_form-none bs e = ap (sound_from bs) e
 
-pub is_form-some : (bs : List ℕ) (s : Spelling) → head_of bs ≡ some s → is_form bs ≡ (leb s.value (2 ^ 29) && right_tracks bs s.value (suc s.size))
+pub is_form-some : (bs : List ℕ) (s : Spelling) → head_of bs ≡ Some s → is_form bs ≡ (leb s.value (2 ^ 29) && right_tracks bs s.value (suc s.size))
 unfolding is_form
 is_form-some bs s e = ap (sound_from bs) e
 
-pub is_form-long : (bs : List ℕ) (s : Spelling) → head_of bs ≡ some s → 2 ^ 29 < s.value → is_form bs ≡ false
+pub is_form-long : (bs : List ℕ) (s : Spelling) → head_of bs ≡ Some s → 2 ^ 29 < s.value → is_form bs ≡ false
 is_form-long bs s e h = is_form-some bs s e ∙ ap (λ (b : Bool). b && right_tracks bs s.value (suc s.size)) (lt-leb s.value (2 ^ 29) h)
 
-pub is_form-tracks : (bs : List ℕ) (s : Spelling) → head_of bs ≡ some s → s.value ≤ 2 ^ 29 → is_form bs ≡ right_tracks bs s.value (suc s.size)
+pub is_form-tracks : (bs : List ℕ) (s : Spelling) → head_of bs ≡ Some s → s.value ≤ 2 ^ 29 → is_form bs ≡ right_tracks bs s.value (suc s.size)
 is_form-tracks bs s e h = is_form-some bs s e ∙ ap (λ (b : Bool). b && right_tracks bs s.value (suc s.size)) (le-leb s.value (2 ^ 29) h)
 
 -- what the judgement of bytes tells
-pub checked_none : (bs : List ℕ) → pick (is_form bs) (head_of bs) none ≡ none → is_form bs ≡ false
+pub checked_none : (bs : List ℕ) → pick (is_form bs) (head_of bs) None ≡ None → is_form bs ≡ false
 checked_none bs h = by (is_form bs) refl h
   where
-    by : (t : Bool) → is_form bs ≡ t → pick t (head_of bs) none ≡ none → is_form bs ≡ false
+    by : (t : Bool) → is_form bs ≡ t → pick t (head_of bs) None ≡ None → is_form bs ≡ false
     by true e h = is_form-none bs h
     by false e h = e
 
-pub form_length-is : (bs : List ℕ) (s : Spelling) → head_of bs ≡ some s → form_length bs ≡ s.value
+pub form_length-is : (bs : List ℕ) (s : Spelling) → head_of bs ≡ Some s → form_length bs ≡ s.value
 unfolding form_length
 form_length-is bs s e = ap length_of e
 
 pub record Judged (bs : List ℕ) (s : Spelling) : Type 0 where
   pub accepted : is_form bs ≡ true
-  pub head : head_of bs ≡ some s
+  pub head : head_of bs ≡ Some s
   pub long : form_length bs ≡ s.value
   pub short : s.size ≤ 5
 
-pub checked_some : (bs : List ℕ) (s : Spelling) → Below 8 bs → pick (is_form bs) (head_of bs) none ≡ some s → Judged bs s
+pub checked_some : (bs : List ℕ) (s : Spelling) → Below 8 bs → pick (is_form bs) (head_of bs) None ≡ Some s → Judged bs s
 checked_some bs s h e = by (is_form bs) refl e
   where
-    by : (t : Bool) → is_form bs ≡ t → pick t (head_of bs) none ≡ some s → Judged bs s
+    by : (t : Bool) → is_form bs ≡ t → pick t (head_of bs) None ≡ Some s → Judged bs s
     by true q e = record { accepted = q; head = e; long = form_length-is bs s e; short = (subst (Fits 5) e (head_fits bs h)).1 }
     by false q e = let z : ◌≡◌ {A = ℕ} 0 1 = cc in absurd (omega arith)
 

@@ -1,7 +1,7 @@
 -- The laws of numbers in groups of seven bits: spelling and reading are each other's inverse, and one turn of the loop that spells.
 -- Assumes nothing.
+use Rattle.std.specs.Prelude.{Option, Some, None}
 use mathlib.Core.List.{List, [], ◌∷◌, ◌++◌}
-use mathlib.Core.Option.{Option, some, none}
 use mathlib.Core.Path.{◌≡◌, refl, sym, ap, ap₂, ◌∙◌, subst}
 use Prim.Native.Nat.{ℕ, zero, suc, ◌+◌, ◌-◌, ◌*◌, ◌/◌, ◌%◌, ◌^◌, ◌≤◌, ◌<◌, zero-le, suc-le-suc}
 use native.Mathlib.Nat.{mul-suc, lt_of_lt_of_le, le-add_left, mul-le-mul_left, le_trans}
@@ -21,16 +21,16 @@ use Rattle.forms.specs.Numbers.{Spelling, spelt, spelling, further, led, Fits}
 
 -- ---- one byte of a number
 
-pub led-last : (b : ℕ) (o : Option Spelling) → b < 128 → led b o ≡ some (record { value = b; size = 1 })
+pub led-last : (b : ℕ) (o : Option Spelling) → b < 128 → led b o ≡ Some (record { value = b; size = 1 })
 led-last b o h = rw (lt-ltb b 128 h)
 
 pub led_on : (b : ℕ) (o : Option Spelling) → 128 ≤ b → led b o ≡ further b o
 led_on b o h = rw (le-ltb b 128 h)
 
-pub further-zero : (b : ℕ) (s : Spelling) → s.value ≡ 0 → further b (some s) ≡ none
+pub further-zero : (b : ℕ) (s : Spelling) → s.value ≡ 0 → further b (Some s) ≡ None
 further-zero b s e = rw (eq-eqb s.value 0 e)
 
-pub further-some : (b : ℕ) (s : Spelling) → (s.value ≡ 0 → ⊥) → further b (some s) ≡ some (record { value = s.value * 128 + (b - 128); size = suc s.size })
+pub further-some : (b : ℕ) (s : Spelling) → (s.value ≡ 0 → ⊥) → further b (Some s) ≡ Some (record { value = s.value * 128 + (b - 128); size = suc s.size })
 further-some b s n = rw (ne_eqb s.value 0 n)
 
 pub spelt-last : (k n : ℕ) → n < 128 → spelt (suc k) n ≡ n ∷ []
@@ -42,12 +42,12 @@ unfolding spelt
 spelt-on k n h = rw (le-ltb n 128 h)
 
 -- by the last byte, or a byte before others: where what follows is no number, is 0, or is another number
-led-cases {ℓ} : (P : Option Spelling → Type ℓ) (b : ℕ) (o : Option Spelling) → (b < 128 → P (some (record { value = b; size = 1 }))) → P none
-    → ((s : Spelling) → o ≡ some s → 128 ≤ b → (s.value ≡ 0 → ⊥) → P (some (record { value = s.value * 128 + (b - 128); size = suc s.size }))) → P (led b o)
-led-cases P b none last bad more = below_or b 128 (λ h. subst P (sym (led-last b none h)) (last h)) (λ h. subst P (sym (led_on b none h)) bad)
-led-cases P b (some s) last bad more =
-    below_or b 128 (λ h. subst P (sym (led-last b (some s) h)) (last h))
-    (λ h. subst P (sym (led_on b (some s) h))
+led-cases {ℓ} : (P : Option Spelling → Type ℓ) (b : ℕ) (o : Option Spelling) → (b < 128 → P (Some (record { value = b; size = 1 }))) → P None
+    → ((s : Spelling) → o ≡ Some s → 128 ≤ b → (s.value ≡ 0 → ⊥) → P (Some (record { value = s.value * 128 + (b - 128); size = suc s.size }))) → P (led b o)
+led-cases P b None last bad more = below_or b 128 (λ h. subst P (sym (led-last b None h)) (last h)) (λ h. subst P (sym (led_on b None h)) bad)
+led-cases P b (Some s) last bad more =
+    below_or b 128 (λ h. subst P (sym (led-last b (Some s) h)) (last h))
+    (λ h. subst P (sym (led_on b (Some s) h))
     (elim (ℕ_discrete s.value 0) [
       | yes e ↦ subst P (sym (further-zero b s e)) bad
       | no n ↦ subst P (sym (further-some b s n)) (more s refl h n)
@@ -67,11 +67,11 @@ spelling-fits (suc k) [] h = tt
 spelling-fits (suc k) (b ∷ bs) h = led-fits k b (spelling k bs) h.0 (spelling-fits k bs h.1)
 
 -- the number that stands from the i-th of five bytes on
-pub spelling-past : (k : ℕ) (bs : List ℕ) (i : ℕ) → length bs ≤ i → spelling k (drop i bs) ≡ none
+pub spelling-past : (k : ℕ) (bs : List ℕ) (i : ℕ) → length bs ≤ i → spelling k (drop i bs) ≡ None
 unfolding spelling
 spelling-past k bs i h = ap (spelling k) (drop_of_length-le bs h) ∙ none_of k
   where
-    none_of : (k : ℕ) → spelling k [] ≡ none
+    none_of : (k : ℕ) → spelling k [] ≡ None
     none_of zero = refl
     none_of (suc k) = refl
 
@@ -95,8 +95,8 @@ pub spelling-small : (i : ℕ) (bs : List ℕ) → Below 8 bs → Fits 8 (spelli
 spelling-small i bs h = Fits-mono (5 - i) (spelling (5 - i) (drop i bs)) (omega arith) (spelling-fits (5 - i) (drop i bs) (Below-drop 8 i bs h))
   where
     Fits-mono : (k : ℕ) (o : Option Spelling) → k ≤ 8 → Fits k o → Fits 8 o
-    Fits-mono k none l f = tt
-    Fits-mono k (some s) l f = (lt_of_lt_of_le f.0 (pow_mono (mul-le-mul_left 7 l)), le_trans f.1 l)
+    Fits-mono k None l f = tt
+    Fits-mono k (Some s) l f = (lt_of_lt_of_le f.0 (pow_mono (mul-le-mul_left 7 l)), le_trans f.1 l)
 
 pub spelt-below : (k n : ℕ) → Below 8 (spelt k n)
 unfolding spelt
@@ -120,21 +120,21 @@ length-spelt_on k n m h e = ap length (spelt-on k n h) ∙ ap suc e
 -- ---- spelling and reading are each other's inverse
 
 -- what was spelt is read, whatever stands behind it
-pub spelling-spelt : (k n : ℕ) (rest : List ℕ) → n < 2 ^ (7 * suc k) → spelling (suc k) (spelt (suc k) n ++ rest) ≡ some (record { value = n; size = length (spelt (suc k) n) })
+pub spelling-spelt : (k n : ℕ) (rest : List ℕ) → n < 2 ^ (7 * suc k) → spelling (suc k) (spelt (suc k) n ++ rest) ≡ Some (record { value = n; size = length (spelt (suc k) n) })
 unfolding spelling
-spelling-spelt zero n rest h = let l : n < 128 = h in rw (spelt-last 0 n l, led-last n none l)
+spelling-spelt zero n rest h = let l : n < 128 = h in rw (spelt-last 0 n l, led-last n None l)
 spelling-spelt (suc k) n rest h =
     below_or n 128 (λ l. rw (spelt-last (suc k) n l, led-last n (spelling (suc k) rest) l))
     (λ l. rw (spelt-on (suc k) n l)
     (ap (led (n % 128 + 128)) (spelling-spelt k (n / 128) rest (shr_lt (7 * suc k) 7 (subst (λ (x : ℕ). n < 2 ^ x) (mul-suc 7 (suc k)) h)))
-    ∙ led_on (n % 128 + 128) (some (record { value = n / 128; size = length (spelt (suc k) (n / 128)) })) (omega arith)
+    ∙ led_on (n % 128 + 128) (Some (record { value = n / 128; size = length (spelt (suc k) (n / 128)) })) (omega arith)
     ∙ further-some (n % 128 + 128) (record { value = n / 128; size = length (spelt (suc k) (n / 128)) }) (λ e. omega arith)
-    ∙ ap (λ (x : ℕ). some (record { value = x; size = suc (length (spelt (suc k) (n / 128))) })) (omega arith)))
+    ∙ ap (λ (x : ℕ). Some (record { value = x; size = suc (length (spelt (suc k) (n / 128))) })) (omega arith)))
 
 -- what was read is spelt so: no number has two spellings
 abbrev Spells : ℕ → List ℕ → Option Spelling → Type 0
-Spells k bs none = Unit {0}
-Spells k bs (some s) = (spelt k s.value ≡ take s.size bs) × (s.size ≤ length bs)
+Spells k bs None = Unit {0}
+Spells k bs (Some s) = (spelt k s.value ≡ take s.size bs) × (s.size ≤ length bs)
 
 spells_all : (k : ℕ) (bs : List ℕ) → Below 8 bs → Spells k bs (spelling k bs)
 unfolding spelling
@@ -150,7 +150,7 @@ spells_all (suc k) (b ∷ bs) h =
       suc-le-suc g.1,
     ))
 
-pub spelt-spelling : (k : ℕ) (bs : List ℕ) (s : Spelling) → Below 8 bs → spelling k bs ≡ some s → (spelt k s.value ≡ take s.size bs) × (s.size ≤ length bs)
+pub spelt-spelling : (k : ℕ) (bs : List ℕ) (s : Spelling) → Below 8 bs → spelling k bs ≡ Some s → (spelt k s.value ≡ take s.size bs) × (s.size ≤ length bs)
 spelt-spelling k bs s h e = subst (Spells k bs) e (spells_all k bs h)
 
 -- ---- one turn of the loop that spells n over old

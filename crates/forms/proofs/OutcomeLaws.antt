@@ -1,5 +1,6 @@
 -- What holds where writing is not refused.
 -- Assumes nothing.
+use Rattle.std.specs.Prelude.{Ok}
 use mathlib.Core.Bool.{true, false}
 use mathlib.Core.Path.{◌≡◌, sym, ap, ◌∙◌}
 use Prim.Native.Nat.{ℕ, ◌+◌, ◌*◌, ◌^◌, ◌≤◌, ◌<◌}
@@ -7,7 +8,6 @@ use lib.Dec.{ltb, leb, eqb}
 use borrow.Author.Tests.{ltb-false, eq-eqb, ne_eqb, le-leb, lt-leb, eqb-true, leb-true, not-false}
 use Rattle.codes.specs.Codes.{per, trailing}
 use Rattle.codes.specs.Refusals.{first, view_tests}
-use Rattle.codes.specs.declared.refusals.Outcome.TheVariants.{Done}
 use Rattle.codes.proofs.TestLaws.{first_at, first_none}
 use Rattle.codes.proofs.RefusalLaws.{both}
 use Rattle.forms.specs.Forms.{bad_tracks, form_size, write_tests}
@@ -26,13 +26,13 @@ tracks_of m n e = let t = both (eqb m n) (leb m (2 ^ 29)) (not-false _ e) in (eq
 
 -- what holds where writing is not refused
 pub record Writable (m ao al n bo bl room : ℕ) : Type 0 where
-  pub base_view : first (view_tests 2 m ao al) ≡ Done
-  pub flag-view : first (view_tests 1 n bo al) ≡ Done
+  pub base_view : first (view_tests 2 m ao al) ≡ Ok tt
+  pub flag-view : first (view_tests 1 n bo al) ≡ Ok tt
   pub same : al ≡ bl
   pub few : al ≤ 2 ^ 29
   pub fits : form_size al ≤ room
 
-pub write_done : (m ao al n bo bl room : ℕ) → first (write_tests m ao al n bo bl room) ≡ Done → Writable m ao al n bo bl room
+pub write_done : (m ao al n bo bl room : ℕ) → first (write_tests m ao al n bo bl room) ≡ Ok tt → Writable m ao al n bo bl room
 write_done m ao al n bo bl room e =
     let h = first_none (write_tests m ao al n bo bl room) e in
     let t = tracks_of al bl h.1.1.1.1.0 in

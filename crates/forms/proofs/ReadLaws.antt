@@ -1,8 +1,8 @@
 -- What holds of bytes that are a form, and where reading is not refused.
 -- Assumes nothing.
+use Rattle.std.specs.Prelude.{Ok, Option, Some, None}
 use mathlib.Core.Bool.{true}
 use mathlib.Core.List.{List}
-use mathlib.Core.Option.{Option, some, none}
 use mathlib.Core.Path.{◌≡◌, refl, sym, ap, ap₂, ◌∙◌}
 use Prim.Native.Nat.{ℕ, suc, ◌+◌, ◌-◌, ◌^◌, ◌≤◌}
 use native.Mathlib.Nat.{add-sub_cancel_left, le_of_eq}
@@ -12,9 +12,7 @@ use lib.ListN.{length, take, drop, length-drop}
 use lib.Seq.{take_all, length-take-le}
 use borrow.Author.Tests.{eqb-true, leb-true, ltb-false, not-false}
 use Rattle.codes.specs.Codes.{up, trailing}
-use Rattle.codes.specs.Refusals.{answer, first}
-use Rattle.codes.specs.declared.refusals.Outcome.{Outcome}
-use Rattle.codes.specs.declared.refusals.Outcome.TheVariants.{Done}
+use Rattle.codes.specs.Refusals.{answer, first, Outcome}
 use Rattle.codes.proofs.RefusalLaws.{answer-outcome, answer-values, both}
 use Rattle.forms.specs.Reading.{head_of, body_of, is_form, form_length, base_bytes, flag_bytes, right_tracks, spare_clear, read_tests}
 use Rattle.forms.specs.Numbers.{Spelling}
@@ -25,7 +23,7 @@ use Rattle.codes.proofs.TestLaws.{first_none}
 
 pub record Form (bs : List ℕ) : Type 0 where
   pub read : Spelling
-  pub is : head_of bs ≡ some read
+  pub is : head_of bs ≡ Some read
   pub few : read.value ≤ 2 ^ 29
   pub whole : length bs ≡ suc read.size + (up 2 read.value + up 1 read.value)
   pub base_clear : spare_clear 2 read.value (take (up 2 read.value) (drop (suc read.size) bs)) ≡ true
@@ -35,8 +33,8 @@ pub form_of : (bs : List ℕ) → is_form bs ≡ true → Form bs
 form_of bs e = by (head_of bs) refl
   where
     by : (h : Option Spelling) → head_of bs ≡ h → Form bs
-    by none q = let f = is_form-none bs q in let z : ◌≡◌ {A = ℕ} 0 1 = cc in absurd (omega arith)
-    by (some s) q =
+    by None q = let f = is_form-none bs q in let z : ◌≡◌ {A = ℕ} 0 1 = cc in absurd (omega arith)
+    by (Some s) q =
         let p = both (leb s.value (2 ^ 29)) (right_tracks bs s.value (suc s.size)) (sym (is_form-some bs s q) ∙ e) in
         let r = both (eqb (length bs) (suc s.size + (up 2 s.value + up 1 s.value))) _ p.1 in
         let t = both (spare_clear 2 s.value (take (up 2 s.value) (drop (suc s.size) bs))) (spare_clear 1 s.value (drop (suc s.size + up 2 s.value) bs)) r.1 in
@@ -71,7 +69,7 @@ flag-lent bs n body k ek en eb = rest_is (body + k) bs ∙ ap (λ (m : ℕ). dro
 -- ---- a form that can be read into buffers of m and n bytes
 
 pub record Readable (bs : List ℕ) (m n len body : ℕ) : Type 0 where
-  pub done : first (read_tests bs m n) ≡ Done
+  pub done : first (read_tests bs m n) ≡ Ok tt
   pub len_is : len ≡ form_length bs
   pub body_is : body ≡ body_of (head_of bs)
   pub small : length bs ≤ 2 ^ 28
@@ -79,10 +77,10 @@ pub record Readable (bs : List ℕ) (m n len body : ℕ) : Type 0 where
   pub base_room : up 2 len + trailing ≤ m
   pub flag-room : up 1 len + trailing ≤ n
 
-pub readable : (bs : List ℕ) (m n len body : ℕ) → answer {A = ℕ × ℕ} Done (len, body) (0, 0) ≡ answer (first (read_tests bs m n)) (form_length bs, body_of (head_of bs)) (0, 0)
+pub readable : (bs : List ℕ) (m n len body : ℕ) → answer {A = ℕ × ℕ} (Ok tt) (len, body) (0, 0) ≡ answer (first (read_tests bs m n)) (form_length bs, body_of (head_of bs)) (0, 0)
     → Readable bs m n len body
 readable bs m n len body e =
-    let o = answer-outcome Done (first (read_tests bs m n)) (len, body) (form_length bs, body_of (head_of bs)) (0, 0) (0, 0) e in
+    let o = answer-outcome (Ok tt) (first (read_tests bs m n)) (len, body) (form_length bs, body_of (head_of bs)) (0, 0) (0, 0) e in
     let v = answer-values (len, body) (form_length bs, body_of (head_of bs)) (0, 0) (0, 0) (e ∙ ap (λ (p : Outcome). answer p (form_length bs, body_of (head_of bs)) (0, 0)) (sym o)) in
     let h = first_none (read_tests bs m n) (sym o) in
     let f = form_of bs (not-false (is_form bs) h.1.1.1.0) in

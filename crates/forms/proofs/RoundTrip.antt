@@ -1,8 +1,8 @@
 -- Round trips: a form that was written reads back, and a form that was read is written back the same; so every accepted form is one that writing makes.
 -- Assumes nothing.
+use Rattle.std.specs.Prelude.{Some, None}
 use mathlib.Core.Bool.{Bool, true, false}
 use mathlib.Core.List.{List, [], ◌∷◌, ◌++◌}
-use mathlib.Core.Option.{some, none}
 use mathlib.Core.Path.{◌≡◌, refl, sym, ap, ap₂, ◌∙◌, subst}
 use Prim.Native.Nat.{ℕ, suc, ◌+◌, ◌^◌, ◌≤◌}
 use native.Mathlib.Nat.{suc-add}
@@ -14,7 +14,7 @@ use borrow.Author.Tests.{eqb-true}
 use Rattle.codes.specs.Codes.{up, pick, chars}
 use Rattle.codes.specs.Words.{packed}
 use Rattle.codes.proofs.CharLaws.{length-chars, chars-fit, unpacked}
-use Rattle.codes.proofs.WidthLaws.{width_1, width_2}
+use Rattle.codes.specs.Widths.{width_1, width_2}
 use Rattle.codes.proofs.WordLaws.{Below, Below-drop}
 use Rattle.forms.specs.Forms.{stored}
 use Rattle.forms.specs.Reading.{head_of, body_of, is_form, form_length, base_bytes, flag_bytes, spare_clear}
@@ -47,7 +47,7 @@ module _ (cs fs : List ℕ) (codes : Below 2 cs) (marks : Below 1 fs) (same : le
   unfolding n size
   head = record { value = n; size = size }
 
-  is : head_of (stored cs fs) ≡ some head
+  is : head_of (stored cs fs) ≡ Some head
   unfolding stored head_of n size head
   is = spelling-spelt 4 (length cs) (packed 2 cs ++ packed 1 fs) (omega arith)
 
@@ -101,16 +101,16 @@ module _ (cs fs : List ℕ) (codes : Below 2 cs) (marks : Below 1 fs) (same : le
 
 -- ---- read, then written
 
-head_parts : (b : ℕ) (bs : List ℕ) (s : Spelling) → head_of (b ∷ bs) ≡ some s → (b ≡ 1) × (spelling 5 bs ≡ some s)
+head_parts : (b : ℕ) (bs : List ℕ) (s : Spelling) → head_of (b ∷ bs) ≡ Some s → (b ≡ 1) × (spelling 5 bs ≡ Some s)
 unfolding head_of
 head_parts b bs s e = by (eqb b 1) refl e
   where
-    by : (t : Bool) → eqb b 1 ≡ t → pick t (spelling 5 bs) none ≡ some s → (b ≡ 1) × (spelling 5 bs ≡ some s)
+    by : (t : Bool) → eqb b 1 ≡ t → pick t (spelling 5 bs) None ≡ Some s → (b ≡ 1) × (spelling 5 bs ≡ Some s)
     by true q e = (eqb-true b 1 q, e)
     by false q e = let z : ◌≡◌ {A = ℕ} 0 1 = cc in absurd (omega arith)
 
 -- the bytes of a form are its head and its two parts
-form_joined : (bs : List ℕ) (s : Spelling) (u : ℕ) → Below 8 bs → head_of bs ≡ some s → 1 ∷ (spelt 5 s.value ++ (take u (drop (suc s.size) bs) ++ drop (suc s.size + u) bs)) ≡ bs
+form_joined : (bs : List ℕ) (s : Spelling) (u : ℕ) → Below 8 bs → head_of bs ≡ Some s → 1 ∷ (spelt 5 s.value ++ (take u (drop (suc s.size) bs) ++ drop (suc s.size + u) bs)) ≡ bs
 unfolding head_of
 form_joined [] s u h e = let z : ◌≡◌ {A = ℕ} 0 1 = cc in absurd (omega arith)
 form_joined (b ∷ bs) s u h e =

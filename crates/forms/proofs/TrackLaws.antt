@@ -142,42 +142,43 @@ module _ {w : ℕ} (W : IsWidth w) where
 
 -- ---- the loop that packs a view
 
--- i bytes are written; p is the next bit of the view's bytes, and `left` bits are left
-pub record Packing (w : ℕ) (s : List ℕ) (o n : ℕ) (old : List ℕ) (i p left : ℕ) (out : List ℕ) : Type 0 where
-  pub place : p ≡ w * o + 8 * i
-  pub bits : left + 8 * i ≡ w * n
-  pub done : out ≡ chars_of 8 i (word 8 s / 2 ^ (w * o) % 2 ^ (w * n)) ++ drop i old
-  pub long : length out ≡ length old
+-- i words are written
+abbrev pub Packing : ℕ → List ℕ → ℕ → ℕ → List ℕ → ℕ → List ℕ → Type 0
+Packing w s o n old i out = out ≡ chars_of 8 (8 * i) (word 8 s / 2 ^ (w * o) % 2 ^ (w * n)) ++ drop (8 * i) old
 
-module _ (w : ℕ) (s : List ℕ) (o n : ℕ) (old : List ℕ) (i p left : ℕ) (out : List ℕ) (t : Packing w s o n old i p left out) where
+module _ (w : ℕ) (s : List ℕ) (o n : ℕ) (old out : List ℕ) (i : ℕ) (t : Packing w s o n old i out) where
   -- the bytes from the view's first bit on, as one number
   abbrev v : ℕ
   v = word 8 s / 2 ^ (w * o)
 
-  -- what is read at p
-  here : (k : ℕ) → word 8 s / 2 ^ p % 2 ^ k ≡ v / 2 ^ (8 * i) % 2 ^ k
-  here k = ap (λ (x : ℕ). x % 2 ^ k) (ap (λ (e : ℕ). word 8 s / 2 ^ e) t.place ∙ sym (shr-shr (word 8 s) (w * o) (8 * i)))
+  -- what is read behind i words
+  here : (k : ℕ) → word 8 s / 2 ^ (w * o + 64 * i) % 2 ^ k ≡ v / 2 ^ (8 * (8 * i)) % 2 ^ k
+  here k =
+      let p : w * o + 64 * i ≡ w * o + 8 * (8 * i) = omega arith in
+      ap (λ (x : ℕ). x % 2 ^ k) (ap (λ (e : ℕ). word 8 s / 2 ^ e) p ∙ sym (shr-shr (word 8 s) (w * o) (8 * (8 * i))))
 
-  pub packing_turn : (x : ℕ) (out' : List ℕ) → 64 ≤ left → x ≡ word 8 s / 2 ^ p % 2 ^ 64 → out' ≡ take i out ++ (chars_of 8 8 x ++ drop (i + 8) out) → length out' ≡ length out
-      → Packing w s o n old (i + 8) (p + 64) (left - 64) out'
-  packing_turn x out' h ex e l =
-      record {
-        place = omega (arith, t.place);
-        bits = omega (arith, t.bits);
-        done = bytes_on i 8 (v % 2 ^ (w * n)) x old out out' t.done (ap (chars_of 8 8) (ex ∙ here 64 ∙ sym within) ∙ chars_of-mod 8 8 (v % 2 ^ (w * n) / 2 ^ (8 * i))) e;
-        long = l ∙ t.long;
-      }
+  pub packing_turn : (x : ℕ) (out' : List ℕ) → i < w * n / 64 → x ≡ word 8 s / 2 ^ (w * o + 64 * i) % 2 ^ 64 → out' ≡ take (8 * i) out ++ (chars_of 8 8 x ++ drop (8 * i + 8) out)
+      → Packing w s o n old (i + 1) out'
+  packing_turn x out' h ex e =
+      bytes_on (8 * i) 8 (v % 2 ^ (w * n)) x old out out' t (ap (chars_of 8 8) (ex ∙ here 64 ∙ sym within) ∙ chars_of-mod 8 8 (v % 2 ^ (w * n) / 2 ^ (8 * (8 * i)))) e
+      ∙ ap (λ (m : ℕ). chars_of 8 m (v % 2 ^ (w * n)) ++ drop m old) next
     where
-      within : v % 2 ^ (w * n) / 2 ^ (8 * i) % 2 ^ 64 ≡ v / 2 ^ (8 * i) % 2 ^ 64
-      within = field_of v (8 * i) 64 (w * n) (omega (arith, t.bits))
+      within : v % 2 ^ (w * n) / 2 ^ (8 * (8 * i)) % 2 ^ 64 ≡ v / 2 ^ (8 * (8 * i)) % 2 ^ 64
+      within = field_of v (8 * (8 * i)) 64 (w * n) (omega arith)
 
-  pub packing_end : IsWidth w → Below 8 s → (x k : ℕ) (out' : List ℕ) → x ≡ word 8 s / 2 ^ p % 2 ^ left → k ≡ (left + 7) / 8 → out' ≡ take i out ++ (chars_of 8 k x ++ drop (i + k) out)
-      → out' ≡ packed w (chars w s o n) ++ drop (up w n) old
-  packing_end W bytes x k out' ex ek e =
-      bytes_on i k (v % 2 ^ (w * n)) x old out out' t.done
-      (ap (chars_of 8 k) (ex ∙ here left ∙ sym (field v left (8 * i)) ∙ ap (λ (m : ℕ). v % 2 ^ m / 2 ^ (8 * i)) t.bits)) e
+      next : 8 * i + 8 ≡ 8 * (i + 1)
+      next = omega arith
+
+  pub packing_end : IsWidth w → Below 8 s → i ≡ w * n / 64 → (x k : ℕ) (out' : List ℕ) → x ≡ word 8 s / 2 ^ (w * o + 64 * i) % 2 ^ (w * n % 64) → k ≡ (w * n % 64 + 7) / 8
+      → out' ≡ take (8 * i) out ++ (chars_of 8 k x ++ drop (8 * i + k) out) → out' ≡ packed w (chars w s o n) ++ drop (up w n) old
+  packing_end W bytes ei x k out' ex ek e =
+      bytes_on (8 * i) k (v % 2 ^ (w * n)) x old out out' t
+      (ap (chars_of 8 k) (ex ∙ here (w * n % 64) ∙ sym (field v (w * n % 64) (8 * (8 * i))) ∙ ap (λ (m : ℕ). v % 2 ^ m / 2 ^ (8 * (8 * i))) bits)) e
       ∙ ap (λ (m : ℕ). chars_of 8 m (v % 2 ^ (w * n)) ++ drop m old) all
       ∙ ap (λ (l : List ℕ). l ++ drop (up w n) old) (sym (packed-chars W s bytes o n))
     where
-      all : i + k ≡ up w n
-      all = omega (arith, ek, t.bits, up-bits W n)
+      bits : w * n % 64 + 8 * (8 * i) ≡ w * n
+      bits = omega (arith, ei)
+
+      all : 8 * i + k ≡ up w n
+      all = omega (arith, ek, ei, up-bits W n)

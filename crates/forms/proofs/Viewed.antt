@@ -1,16 +1,16 @@
 -- Only the characters of the two views that are written count: accepted views with equal characters get equal answers and leave equal forms.
 -- Assumes nothing.
+use Rattle.std.specs.Prelude.{Ok}
 use mathlib.Core.List.{List, [], ◌∷◌, ◌++◌}
 use mathlib.Core.Path.{◌≡◌, sym, ◌∙◌}
 use Prim.Native.Nat.{ℕ}
 use lib.ListN.{length, drop}
 use Rattle.codes.specs.Refusals.{answer, first, view_tests, if_done, no_room}
-use Rattle.codes.specs.declared.refusals.Outcome.TheVariants.{Done}
 use Rattle.codes.proofs.Viewed.{Same, view_passed, long}
 use Rattle.forms.specs.Forms.{stored, bad_tracks, form_size, write_outcome, write_answer, write_after}
 
 -- accepted views are judged by their lengths and the room alone
-judged : (xs : List ℕ) (ao al : ℕ) (ys : List ℕ) (bo bl : ℕ) (out : List ℕ) → first (view_tests 2 (length xs) ao al) ≡ Done → first (view_tests 1 (length ys) bo bl) ≡ Done
+judged : (xs : List ℕ) (ao al : ℕ) (ys : List ℕ) (bo bl : ℕ) (out : List ℕ) → first (view_tests 2 (length xs) ao al) ≡ Ok tt → first (view_tests 1 (length ys) bo bl) ≡ Ok tt
     → write_outcome xs ao al ys bo bl out ≡ first (bad_tracks al bl ∷ no_room (length out) (form_size al) ∷ [])
 unfolding write_outcome
 judged xs ao al ys bo bl out e f =

@@ -3,9 +3,8 @@
 use Rattle.std.specs.Prelude.{◌&&◌, not, List, [], ◌∷◌, ◌++◌, ℕ, suc, ◌+◌, ◌^◌, leb, eqb, length}
 use Rattle.std.proofs.Math.ListN.{drop}
 use Rattle.codes.specs.Codes.{up, chars}
-use Rattle.codes.specs.Refusals.{Test, Answer, answer, first, if_done, too_long, bad_view, no_room}
+use Rattle.codes.specs.Refusals.{Test, Answer, answer, first, if_done, too_long, bad_view, no_room, Outcome}
 use Rattle.codes.specs.Words.{packed}
-use Rattle.codes.specs.declared.refusals.Outcome.{Outcome}
 use Rattle.codes.specs.declared.refusals.Refusal.TheVariants.{BadRange}
 use Rattle.forms.specs.Numbers.{spelt}
 

@@ -1,26 +1,24 @@
 -- Reading a stored form: what a sound one is, its length and its tracks; what reading answers and leaves.
 -- Assumes nothing.
-use Rattle.std.specs.Prelude.{Bool, true, false, ◌&&◌, not, List, [], ◌∷◌, ◌++◌, ℕ, suc, ◌+◌, ◌-◌, ◌*◌, ◌^◌, leb, eqb, length, take, drop, replicate}
-use Rattle.std.proofs.Math.Option.{Option, some, none}
+use Rattle.std.specs.Prelude.{Bool, true, false, ◌&&◌, not, List, [], ◌∷◌, ◌++◌, ℕ, suc, ◌+◌, ◌-◌, ◌*◌, ◌^◌, leb, eqb, length, take, drop, replicate, Option, Some, None}
 use Rattle.codes.specs.Codes.{per, up, trailing, pick, chars}
-use Rattle.codes.specs.Refusals.{Test, Answer, answer, first, if_done, too_long, no_room}
-use Rattle.codes.specs.declared.refusals.Outcome.{Outcome}
+use Rattle.codes.specs.Refusals.{Test, Answer, answer, first, if_done, too_long, no_room, Outcome}
 use Rattle.codes.specs.declared.refusals.Refusal.TheVariants.{BadForm}
 use Rattle.forms.specs.Numbers.{Spelling, spelling}
 
 -- byte 1, then n: its value, and how many bytes it takes
 unfoldable pub head_of : List ℕ → Option Spelling
-head_of [] = none
-head_of (b ∷ bs) = pick (eqb b 1) (spelling 5 bs) none
+head_of [] = None
+head_of (b ∷ bs) = pick (eqb b 1) (spelling 5 bs) None
 
 -- n, and where the base bytes begin
 abbrev pub length_of : Option Spelling → ℕ
-length_of none = 0
-length_of (some s) = s.value
+length_of None = 0
+length_of (Some s) = s.value
 
 abbrev pub body_of : Option Spelling → ℕ
-body_of none = 0
-body_of (some s) = suc s.size
+body_of None = 0
+body_of (Some s) = suc s.size
 
 -- n of a form, its base bytes and its flag bytes
 unfoldable pub form_length : List ℕ → ℕ
@@ -50,8 +48,8 @@ right_tracks bs n body =
 
 -- behind such a head: n is at most 2^29, then just the base bytes and the flag bytes, and no spare bit set
 abbrev pub sound_from : List ℕ → Option Spelling → Bool
-sound_from bs none = false
-sound_from bs (some s) = leb s.value (2 ^ 29) && right_tracks bs s.value (suc s.size)
+sound_from bs None = false
+sound_from bs (Some s) = leb s.value (2 ^ 29) && right_tracks bs s.value (suc s.size)
 
 -- byte 1, a sound n, and what is to stand behind them
 unfoldable pub is_form : List ℕ → Bool

@@ -4,12 +4,12 @@ ghost use Rattle.forms.specs.Answers.{wrote_says, restored_says};
 ghost use Rattle.forms.specs.Forms.{write_answer, write_after};
 ghost use Rattle.forms.specs.Reading.{read_answer, bases_after, flags_after};
 
-use crate::answers::{Restored, Wrote};
-use crate::inner::reading::{Checked, check};
+use crate::inner::reading::check;
 use crate::inner::tracks::fill;
 use crate::inner::writing::{form_size, write_form, write_outcome};
-use codes::refusals::Outcome;
-use codes::units::Chars;
+use codes::refusals::Refusal;
+use codes::units::{Bytes, Chars};
+use codes::widths::Bases;
 
 // Writes the form of a view of bases and a view of flags.
 pub fn write(
@@ -20,13 +20,13 @@ pub fn write(
     flag_offset: Chars,
     flag_len: Chars,
     out: &mut [u8],
-) -> Wrote
+) -> Result<Bytes, Refusal>
     ensures answer { wrote_says result ≡
         write_answer bases.now base_offset.0 base_len.0 flags.now flag_offset.0 flag_len.0 out.old }
     ensures bytes { out.new ≡
         write_after bases.now base_offset.0 base_len.0 flags.now flag_offset.0 flag_len.0 out.old }
 {
-    match write_outcome(
+    write_outcome(
         bases,
         base_offset,
         base_len,
@@ -34,31 +34,22 @@ pub fn write(
         flag_offset,
         flag_len,
         out.len(),
-    ) {
-        Outcome::Refused(refusal) => Wrote::Refused(refusal),
-        Outcome::Done => {
-            let a = base_offset.count();
-            let b = flag_offset.count();
-            write_form(bases, a, flags, b, base_len, out);
-            Wrote::Is(form_size(base_len))
-        }
-    }
+    )?;
+    let a = base_offset.count();
+    let b = flag_offset.count();
+    write_form(bases, a, flags, b, base_len, out);
+    Ok(form_size(base_len))
 }
 
 // Fills two buffers as stores of the form's length.
-pub fn read(form: &[u8], bases: &mut [u8], flags: &mut [u8]) -> Restored
+pub fn read(form: &[u8], bases: &mut [u8], flags: &mut [u8]) -> Result<Chars, Refusal>
     ensures answer { restored_says result ≡ read_answer form.now bases.old flags.old }
     ensures base_bytes { bases.new ≡ bases_after form.now bases.old flags.old }
     ensures flag_bytes { flags.new ≡ flags_after form.now bases.old flags.old }
 {
-    match check(form, bases.len(), flags.len()) {
-        Checked::Refused(refusal) => Restored::Refused(refusal),
-        Checked::Is { n, body } => {
-            let len = Chars::new(n);
-            let middle = body + len.bytes_as_bases().count();
-            fill(&form[body..middle], bases);
-            fill(&form[middle..], flags);
-            Restored::Is(len)
-        }
-    }
+    let checked = check(form, bases.len(), flags.len())?;
+    let middle = checked.body + checked.len.bytes_as::<Bases>().count();
+    fill(&form[checked.body..middle], bases);
+    fill(&form[middle..], flags);
+    Ok(checked.len)
 }

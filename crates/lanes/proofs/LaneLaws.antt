@@ -1,5 +1,6 @@
 -- The laws of lanes: which sizes a stream that is not refused has, and which character a lane gets.
 -- Assumes nothing.
+use Rattle.std.specs.Prelude.{Ok}
 use mathlib.Core.List.{List, [], ◌∷◌}
 use mathlib.Core.Path.{◌≡◌, refl, sym, ◌∙◌}
 use Prim.Native.Nat.{ℕ, ◌+◌, ◌-◌, ◌*◌, ◌/◌, ◌%◌, ◌^◌, ◌≤◌, ◌<◌}
@@ -11,7 +12,6 @@ use borrow.Author.Tests.{lt-ltb, le-ltb}
 use Rattle.codes.specs.Codes.{IsWidth, chars}
 use Rattle.codes.specs.Refusals.{first, view_tests}
 use Rattle.codes.specs.Words.{word}
-use Rattle.codes.specs.declared.refusals.Outcome.TheVariants.{Done}
 use Rattle.codes.proofs.CharLaws.{length-chars, get_or-chars}
 use Rattle.codes.proofs.FieldLaws.{char_at-is}
 use Rattle.codes.proofs.WidthLaws.{below_or}
@@ -24,18 +24,18 @@ use Rattle.lanes.proofs.ShapeLaws.{Shaped, shaped-is, steps-none, steps-some}
 
 -- the tests of a stream, one by one
 pub record Open (w : ℕ) (bs : List ℕ) (o len c f d e : ℕ) : Type 0 where
-  pub view : first (view_tests w (length bs) o len) ≡ Done
-  pub shape : first (bad_shape c f ∷ []) ≡ Done
-  pub delays : first (bad_delays d e ∷ []) ≡ Done
+  pub view : first (view_tests w (length bs) o len) ≡ Ok tt
+  pub shape : first (bad_shape c f ∷ []) ≡ Ok tt
+  pub delays : first (bad_delays d e ∷ []) ≡ Ok tt
 
-pub stream_open : (w : ℕ) (bs : List ℕ) (o len c f d e : ℕ) → first (stream_tests w bs o len c f d e) ≡ Done → Open w bs o len c f d e
+pub stream_open : (w : ℕ) (bs : List ℕ) (o len c f d e : ℕ) → first (stream_tests w bs o len c f d e) ≡ Ok tt → Open w bs o len c f d e
 stream_open w bs o len c f d e h =
     let a = first_both (view_tests w (length bs) o len) (bad_shape c f ∷ bad_delays d e ∷ []) h in
     let b = first_both (bad_shape c f ∷ []) (bad_delays d e ∷ []) a.1 in
     record { view = a.0; shape = b.0; delays = b.1 }
 
 -- the plain stream is not refused where one with delays is not
-pub stream_plain : (w : ℕ) (bs : List ℕ) (o len c f d e : ℕ) → Open w bs o len c f d e → first (stream_tests w bs o len c f 0 0) ≡ Done
+pub stream_plain : (w : ℕ) (bs : List ℕ) (o len c f d e : ℕ) → Open w bs o len c f d e → first (stream_tests w bs o len c f 0 0) ≡ Ok tt
 stream_plain w bs o len c f d e h = sym (first_behind (view_tests w (length bs) o len) (bad_shape c f ∷ bad_delays 0 0 ∷ []) h.view 2 ((first_none (bad_shape c f ∷ []) h.shape).0, (refl, tt)))
 
 -- lanes and steps of a stream over a view
@@ -44,7 +44,7 @@ pub record Sized (w len c f : ℕ) : Type 0 where
   pub lane-few : lane w len c f ≤ 2 ^ 29
   pub steps-few : steps w len c f ≤ 2 ^ 32
 
-pub stream_sizes : {w : ℕ} → IsWidth w → (n o len c f : ℕ) → first (view_tests w n o len) ≡ Done → first (bad_shape c f ∷ []) ≡ Done → Sized w len c f
+pub stream_sizes : {w : ℕ} → IsWidth w → (n o len c f : ℕ) → first (view_tests w n o len) ≡ Ok tt → first (bad_shape c f ∷ []) ≡ Ok tt → Sized w len c f
 stream_sizes {w} W n o len c f v h =
     let b = view_bits W n o len v in
     let s = shaped-is W len c f h in

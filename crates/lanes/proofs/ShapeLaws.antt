@@ -1,5 +1,6 @@
 -- The laws of a stream's numbers: their ranges where nothing is refused, and that no sum wraps.
 -- Assumes nothing.
+use Rattle.std.specs.Prelude.{Ok}
 use mathlib.Core.Bool.{◌||◌}
 use mathlib.Core.List.{[], ◌∷◌}
 use mathlib.Core.Path.{◌≡◌, refl, ap₂, ◌∙◌}
@@ -11,7 +12,6 @@ use lib.Pow.{pow-add}
 use borrow.Author.Tests.{ltb-false, lt-ltb, le-ltb}
 use Rattle.codes.specs.Codes.{per, IsWidth}
 use Rattle.codes.specs.Refusals.{first}
-use Rattle.codes.specs.declared.refusals.Outcome.TheVariants.{Done}
 use Rattle.codes.proofs.WidthLaws.{per_pos, per-le}
 use Rattle.codes.proofs.TestLaws.{first_none}
 use Rattle.codes.proofs.RefusalLaws.{neither}
@@ -45,14 +45,14 @@ group_pow w f r h l e = pow-add 2 (f - 1) r ∙ ap₂ (λ (a b : ℕ). a * b) (a
     alone (suc (suc zero)) h l = refl
     alone (suc (suc (suc n))) h l = absurd (omega arith)
 
-pub shape_ranges : (c f : ℕ) → first (bad_shape c f ∷ []) ≡ Done → (1 ≤ c) × (c ≤ 2 ^ 31) × (1 ≤ f) × (f ≤ 2)
+pub shape_ranges : (c f : ℕ) → first (bad_shape c f ∷ []) ≡ Ok tt → (1 ≤ c) × (c ≤ 2 ^ 31) × (1 ≤ f) × (f ≤ 2)
 shape_ranges c f e =
     let x = neither (ltb c 1 || ltb (2 ^ 31) c || ltb f 1) (ltb 2 f) (first_none (bad_shape c f ∷ []) e).0 in
     let y = neither (ltb c 1 || ltb (2 ^ 31) c) (ltb f 1) x.0 in
     let z = neither (ltb c 1) (ltb (2 ^ 31) c) y.0 in
     (ltb-false c 1 z.0, ltb-false (2 ^ 31) c z.1, ltb-false f 1 y.1, ltb-false 2 f x.1)
 
-pub shaped-is : {w : ℕ} → IsWidth w → (len c f : ℕ) → first (bad_shape c f ∷ []) ≡ Done → Shaped w len c f
+pub shaped-is : {w : ℕ} → IsWidth w → (len c f : ℕ) → first (bad_shape c f ∷ []) ≡ Ok tt → Shaped w len c f
 unfolding lane
 shaped-is {w} W len c f e =
     let r = shape_ranges c f e in

@@ -95,6 +95,3 @@ module _ (w : ℕ) (cs : List ℕ) (n d j count : ℕ) (words : List ℕ) (late 
   pub filled_more : {a : ℕ} {x y z : List ℕ} → Made (lane_entry cs n d) (8 * a) (8 * j) x y → Made (turned w words (8 * j)) (8 * j) (8 * j + 8 * count) y z → a ≤ j
       → Made (lane_entry cs n d) (8 * a) (8 * (j + count)) x z
   filled_more p q h = made-to (made-join p q (omega arith) (omega arith) (λ i g l _. turned-is i g l)) (omega arith)
-
-pub width_turn : {w : ℕ} → IsWidth w → 0 < 64 / w
-width_turn {w} W = below_or 0 (64 / w) (λ h. h) (λ h. let e : 64 / w ≡ 0 = omega arith in let z : 64 ≡ w * 0 = sym (whole W 8) ∙ ap (λ (x : ℕ). w * x) e in absurd (omega arith))

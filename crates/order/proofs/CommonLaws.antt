@@ -4,7 +4,7 @@
 use mathlib.Core.List.{List}
 use mathlib.Core.Path.{◌≡◌, refl, sym, ap, ap₂, ◌∙◌, subst}
 use Prim.Native.Nat.{ℕ, zero, suc, ◌+◌, ◌-◌, ◌*◌, ◌/◌, ◌%◌, ◌^◌, ◌≤◌, ◌<◌, min}
-use native.Mathlib.Nat.{add-zero, add_comm, add_assoc, add-sub_of_le, mul-add, mul-suc, mul_comm, mul-le-mul_left, div-one, mod-one, zero-div, zero-mod, mul-div-le, lt-div-mul-add}
+use native.Mathlib.Nat.{add_comm, add_assoc, add-sub_of_le, mul-add, mul-suc, mul_comm, mul-le-mul_left, div-one, mod-one, zero-div, zero-mod, mul-div-le, lt-div-mul-add}
 use native.Mathlib.Nat.{le_of_suc-le-suc, lt_of_lt_of_le, lt_of_le_of_lt, lt_trans, le_of_lt, le_trans, lt_of_mul-lt-mul_left, min-le_left, min-le_right, le-min, min-eq_left, min-eq_right}
 use native.Mathlib.Numerals.{add-one}
 use native.Mathlib.Omega.{arith}
@@ -162,10 +162,6 @@ module _ {w : ℕ} (W : IsWidth w) (s t : List ℕ) (bs : Below 8 s) (bt : Below
           differ_at W s t bs bt (o + i) (o' + i) p q x y hx hy m (m / w) (set_at-zeros 64 (bit_xor x y) (lt_trans small (lit< tt))) lo hi (char_within W m small)
           (ap (char_at w s) (add_assoc o i (m / w)) ∙ e ∙ ap (char_at w t) (sym (add_assoc o' i (m / w))))
 
--- the place of the next turn
-place_on : {w : ℕ} → IsWidth w → (o i p : ℕ) → p ≡ w * (o + i) → p + 56 ≡ w * (o + (i + 56 / w))
-place_on {w} W o i p e = ap₂ (λ (a b : ℕ). a + b) e (sym (whole W 7)) ∙ sym (mul-add w (o + i) (56 / w)) ∙ ap (λ (n : ℕ). w * n) (add_assoc o i (56 / w))
-
 -- two views, and the n places that both have
 pub record Two (w : ℕ) (s : List ℕ) (o al : ℕ) (t : List ℕ) (o' bl n : ℕ) : Type 0 where
   pub width : IsWidth w
@@ -173,53 +169,34 @@ pub record Two (w : ℕ) (s : List ℕ) (o al : ℕ) (t : List ℕ) (o' bl n : �
   pub bits : Bits w (length s) o al × Bits w (length t) o' bl
   pub least : n ≡ min al bl
 
--- a loop over them that has passed i equal characters, and reads on at bits p and q
-pub record Passed (w : ℕ) (s : List ℕ) (o : ℕ) (t : List ℕ) (o' i p q : ℕ) : Type 0 where
-  pub left : p ≡ w * (o + i)
-  pub right : q ≡ w * (o' + i)
-  pub same : SameBelow w s o t o' i
-
-pub passed_none : (w : ℕ) (s : List ℕ) (o : ℕ) (t : List ℕ) (o' : ℕ) → Passed w s o t o' 0 (w * o) (w * o')
-passed_none w s o t o' = record { left = ap (λ (k : ℕ). w * k) (sym (add-zero o)); right = ap (λ (k : ℕ). w * k) (sym (add-zero o')); same = λ j l. absurd (omega arith) }
-
 module _ {w : ℕ} {s : List ℕ} {o al : ℕ} {t : List ℕ} {o' bl n : ℕ} (v : Two w s o al t o' bl n) where
-  pub two_few : n < 2 ^ 32
-  two_few = omega (arith, v.least, min-le_left al bl, v.bits.0.short)
+  -- where the two words of a turn stand
+  pub turn_left : {i : ℕ} → i < n → (w * (o + i) / 8 + 40 ≤ length s) × (w * (o + i) < 2 ^ 31)
+  turn_left {i} l = view_word w (length s) o al i _ v.bits.0 (omega (arith, v.least, min-le_left al bl)) refl
 
-  -- where the two views begin
-  pub two_starts : (w * o < 2 ^ 31) × (w * o' < 2 ^ 31)
-  two_starts = (omega (arith, v.bits.0.room, v.bits.0.few), omega (arith, v.bits.1.room, v.bits.1.few))
+  pub turn_right : {i : ℕ} → i < n → (w * (o' + i) / 8 + 40 ≤ length t) × (w * (o' + i) < 2 ^ 31)
+  turn_right {i} l = view_word w (length t) o' bl i _ v.bits.1 (omega (arith, v.least, min-le_right al bl)) refl
 
-  module _ {i p q : ℕ} (h : Passed w s o t o' i p q) where
-    -- where the two words of a turn stand
-    pub turn_left : i < n → (p / 8 + 40 ≤ length s) × (p < 2 ^ 31)
-    turn_left l = view_word w (length s) o al i p v.bits.0 (omega (arith, v.least, min-le_left al bl)) h.left
-
-    pub turn_right : i < n → (q / 8 + 40 ≤ length t) × (q < 2 ^ 31)
-    turn_right l = view_word w (length t) o' bl i q v.bits.1 (omega (arith, v.least, min-le_right al bl)) h.right
-
+  -- a loop over them that has passed i equal characters
+  module _ {i : ℕ} (h : SameBelow w s o t o' i) where
     -- past the end, all is equal
     pub passed_all : n ≤ i → n ≡ common (chars w s o al) (chars w t o' bl)
-    passed_all l = same_all w s o al t o' bl i n v.least l h.same
+    passed_all l = same_all w s o al t o' bl i n v.least l h
 
-    module _ (x y : ℕ) (ex : x % 2 ^ 56 ≡ word 8 s / 2 ^ p % 2 ^ 56) (ey : y % 2 ^ 56 ≡ word 8 t / 2 ^ q % 2 ^ 56) where
-      left_peeked : Peeked w s (o + i) p x
-      left_peeked = record { place = h.left; bits = ex }
+    module _ (x y : ℕ) (ex : x % 2 ^ 56 ≡ word 8 s / 2 ^ (w * (o + i)) % 2 ^ 56) (ey : y % 2 ^ 56 ≡ word 8 t / 2 ^ (w * (o' + i)) % 2 ^ 56) where
+      left_peeked : Peeked w s (o + i) (w * (o + i)) x
+      left_peeked = record { place = refl; bits = ex }
 
-      right_peeked : Peeked w t (o' + i) q y
-      right_peeked = record { place = h.right; bits = ey }
+      right_peeked : Peeked w t (o' + i) (w * (o' + i)) y
+      right_peeked = record { place = refl; bits = ey }
 
       -- 56 equal bits are passed
-      pub passed_turn : bit_xor x y % 2 ^ 56 ≡ 0 → Passed w s o t o' (i + 56 / w) (p + 56) (q + 56)
-      passed_turn z = record {
-        left = place_on v.width o i p h.left;
-        right = place_on v.width o' i q h.right;
-        same = common-turn v.width s t v.bytes.0 v.bytes.1 o o' i p q x y left_peeked right_peeked h.same z;
-      }
+      pub passed_turn : bit_xor x y % 2 ^ 56 ≡ 0 → SameBelow w s o t o' (i + 56 / w)
+      passed_turn z = common-turn v.width s t v.bytes.0 v.bytes.1 o o' i _ _ x y left_peeked right_peeked h z
 
       -- 56 bits that differ show where
       pub passed_found : (bit_xor x y % 2 ^ 56 ≡ 0 → ⊥) → min (i + count_trailing_zeros 64 (bit_xor x y) / w) n ≡ common (chars w s o al) (chars w t o' bl)
-      passed_found z = common-found v.width s t v.bytes.0 v.bytes.1 o o' i p q x y left_peeked right_peeked h.same al bl n v.least z
+      passed_found z = common-found v.width s t v.bytes.0 v.bytes.1 o o' i _ _ x y left_peeked right_peeked h al bl n v.least z
 
       -- and the character of each view there
       pub passed_chars : (bit_xor x y % 2 ^ 56 ≡ 0 → ⊥)
@@ -228,6 +205,6 @@ module _ {w : ℕ} {s : List ℕ} {o al : ℕ} {t : List ℕ} {o' bl n : ℕ} (v
       passed_chars z =
           let k : ℕ = count_trailing_zeros 64 (bit_xor x y) / w in
           let h = char_within v.width (count_trailing_zeros 64 (bit_xor x y)) (differ_low (bit_xor x y) z) in (
-            sym (peeked_char v.width s v.bytes.0 (o + i) p x left_peeked k h) ∙ ap (char_at w s) (add_assoc o i k),
-            sym (peeked_char v.width t v.bytes.1 (o' + i) q y right_peeked k h) ∙ ap (char_at w t) (add_assoc o' i k),
+            sym (peeked_char v.width s v.bytes.0 (o + i) _ x left_peeked k h) ∙ ap (char_at w s) (add_assoc o i k),
+            sym (peeked_char v.width t v.bytes.1 (o' + i) _ y right_peeked k h) ∙ ap (char_at w t) (add_assoc o' i k),
           )

@@ -1,8 +1,8 @@
 -- The laws of standing and of the least place: a text and a pattern by their characters, as functions of the place.
 -- Assumes nothing.
+use Rattle.std.specs.Prelude.{Some, None}
 use mathlib.Core.Bool.{Bool, true, false, ◌&&◌}
 use mathlib.Core.List.{List}
-use mathlib.Core.Option.{Option, some, none}
 use mathlib.Core.Path.{◌≡◌, refl, sym, ap, ◌∙◌}
 use Prim.Native.Nat.{ℕ, zero, suc, ◌+◌, ◌*◌, ◌/◌, ◌%◌, ◌^◌, ◌≤◌, ◌<◌, zero-le, suc-le-suc}
 use native.Mathlib.Nat.{zero-add, suc-add, add_assoc, le_of_suc-le-suc, lt_of_lt_of_le, not-suc-le-zero}
@@ -11,13 +11,11 @@ use lib.Bits.{bit_xor, xor_mod, xor_self}
 use lib.Dec.{eqb}
 use borrow.Author.Tests.{eq-eqb, eqb-true}
 use Rattle.codes.specs.Codes.{IsWidth, pick, char_at, tab, chars}
-use Rattle.codes.specs.Refusals.{answer}
-use Rattle.codes.specs.declared.refusals.Outcome.TheVariants.{Done}
 use Rattle.codes.specs.Words.{word}
 use Rattle.codes.proofs.CharLaws.{get_or-chars, chars-ext}
 use Rattle.codes.proofs.FieldLaws.{mod_low, word-chars}
 use Rattle.codes.proofs.WordLaws.{Below}
-use Rattle.order.specs.Order.{common, stands, one_on, place_of, placed}
+use Rattle.order.specs.Order.{common, stands, one_on, place_of}
 use Rattle.order.proofs.CommonLaws.{common-chars}
 use Rattle.order.proofs.OrderLaws.{from_zero, common-same}
 
@@ -67,21 +65,21 @@ back : (m n : ℕ) (f g : ℕ → ℕ) (k : ℕ) → StandsAt (λ i. f (suc i)) 
 back m n f g k s = (omega (arith, s.0), λ i h. ap f (suc-add k i) ∙ s.1 i h)
 
 -- the first place where a pattern stands is its place
-place_at_lem : (k m n : ℕ) (f g : ℕ → ℕ) → StandsAt f n g m k → ((j : ℕ) → j < k → StandsAt f n g m j → ⊥) → place_of (tab m g) (tab n f) ≡ some k
+place_at_lem : (k m n : ℕ) (f g : ℕ → ℕ) → StandsAt f n g m k → ((j : ℕ) → j < k → StandsAt f n g m j → ⊥) → place_of (tab m g) (tab n f) ≡ Some k
 unfolding place_of tab
-place_at_lem zero m zero f g s h = ap (λ (b : Bool). pick b (some 0) none) (stands-front m zero f g s)
-place_at_lem zero m (suc n) f g s h = ap (λ (b : Bool). pick b (some 0) (one_on (place_of (tab m g) (tab n (λ i. f (suc i)))))) (stands-front m (suc n) f g s)
+place_at_lem zero m zero f g s h = ap (λ (b : Bool). pick b (Some 0) None) (stands-front m zero f g s)
+place_at_lem zero m (suc n) f g s h = ap (λ (b : Bool). pick b (Some 0) (one_on (place_of (tab m g) (tab n (λ i. f (suc i)))))) (stands-front m (suc n) f g s)
 place_at_lem (suc k) m zero f g s h = absurd (omega (arith, s.0))
 place_at_lem (suc k) m (suc n) f g s h =
-    ap (λ (b : Bool). pick b (some 0) (one_on (place_of (tab m g) (tab n (λ i. f (suc i)))))) (stands-not m (suc n) f g (h 0 (suc-le-suc zero-le)))
+    ap (λ (b : Bool). pick b (Some 0) (one_on (place_of (tab m g) (tab n (λ i. f (suc i)))))) (stands-not m (suc n) f g (h 0 (suc-le-suc zero-le)))
     ∙ ap one_on (place_at_lem k m n (λ i. f (suc i)) g (on m n f g k s) (λ j l z. h (suc j) (suc-le-suc l) (back m n f g j z)))
 
 -- a pattern that stands nowhere has none
-place_none : (m n : ℕ) (f g : ℕ → ℕ) → ((j : ℕ) → StandsAt f n g m j → ⊥) → place_of (tab m g) (tab n f) ≡ none
+place_none : (m n : ℕ) (f g : ℕ → ℕ) → ((j : ℕ) → StandsAt f n g m j → ⊥) → place_of (tab m g) (tab n f) ≡ None
 unfolding place_of tab
-place_none m zero f g h = ap (λ (b : Bool). pick b (some 0) none) (stands-not m zero f g (h 0))
+place_none m zero f g h = ap (λ (b : Bool). pick b (Some 0) None) (stands-not m zero f g (h 0))
 place_none m (suc n) f g h =
-    ap (λ (b : Bool). pick b (some 0) (one_on (place_of (tab m g) (tab n (λ i. f (suc i)))))) (stands-not m (suc n) f g (h 0))
+    ap (λ (b : Bool). pick b (Some 0) (one_on (place_of (tab m g) (tab n (λ i. f (suc i)))))) (stands-not m (suc n) f g (h 0))
     ∙ ap one_on (place_none m n (λ i. f (suc i)) g (λ j z. h (suc j) (back m n f g j z)))
 
 -- a text view and a pattern view: the pattern stands at k
@@ -127,10 +125,10 @@ module _ (w : ℕ) (t : List ℕ) (to tl : ℕ) (p : List ℕ) (po pl : ℕ) whe
       same : x % 2 ^ n ≡ y % 2 ^ n
       same = low_of x (word 8 t / 2 ^ (w * (to + k))) ex ∙ views_same ∙ sym (low_of y (word 8 p / 2 ^ (w * po)) ey)
 
-  pub found_at : (k : ℕ) → Stands k → ((j : ℕ) → j < k → Stands j → ⊥) → answer Done (true, k) (false, 0) ≡ answer Done (placed (place_of (chars w p po pl) (chars w t to tl))) (false, 0)
+  pub found_at : (k : ℕ) → Stands k → ((j : ℕ) → j < k → Stands j → ⊥) → Some k ≡ place_of (chars w p po pl) (chars w t to tl)
   unfolding chars
-  found_at k s h = sym (ap (λ (x : Option ℕ). answer Done (placed x) (false, 0)) (place_at_lem k pl tl (λ i. char_at w t (to + i)) (λ i. char_at w p (po + i)) s h))
+  found_at k s h = sym (place_at_lem k pl tl (λ i. char_at w t (to + i)) (λ i. char_at w p (po + i)) s h)
 
-  pub found_none : ((j : ℕ) → Stands j → ⊥) → answer Done (false, 0) (false, 0) ≡ answer Done (placed (place_of (chars w p po pl) (chars w t to tl))) (false, 0)
+  pub found_none : ((j : ℕ) → Stands j → ⊥) → None ≡ place_of (chars w p po pl) (chars w t to tl)
   unfolding chars
-  found_none h = sym (ap (λ (x : Option ℕ). answer Done (placed x) (false, 0)) (place_none pl tl (λ i. char_at w t (to + i)) (λ i. char_at w p (po + i)) h))
+  found_none h = sym (place_none pl tl (λ i. char_at w t (to + i)) (λ i. char_at w p (po + i)) h)

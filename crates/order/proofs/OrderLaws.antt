@@ -1,11 +1,14 @@
 -- The common length of two lists, and their order from it; what two views have that are not refused.
 -- Assumes nothing.
+use Rattle.std.specs.Prelude.{Ok}
+use Rattle.std.specs.Ordering.{MatchOrdering, nat_cmp}
+use Rattle.std.proofs.lemmas.Cmp.{ranked}
 use mathlib.Core.Bool.{Bool, true, false}
 use mathlib.Core.List.{List, [], ◌∷◌}
 use mathlib.Core.Path.{◌≡◌, refl, sym, ap, ap₂, ◌∙◌, subst₂}
 use Prim.Native.Nat.{ℕ, zero, suc, ◌+◌, ◌*◌, ◌^◌, ◌≤◌, ◌<◌, zero-le, suc-le-suc}
 use native.Mathlib.Decide.{ℕ_discrete}
-use native.Mathlib.Nat.{le_of_suc-le-suc, not-suc-le-zero}
+use native.Mathlib.Nat.{le_of_lt, le_of_suc-le-suc, not-suc-le-zero}
 use native.Mathlib.Omega.{arith}
 use lib.Arith.{le-zero}
 use lib.Dec.{ltb, leb-suc-suc}
@@ -13,17 +16,26 @@ use lib.ListN.{length, get_or}
 use borrow.Author.Tests.{lt-ltb, le-ltb, eq-eqb, ne_eqb}
 use Rattle.codes.specs.Codes.{IsWidth, per, pick, char_at, chars, trailing}
 use Rattle.codes.specs.Refusals.{first, view_tests}
-use Rattle.codes.specs.declared.refusals.Outcome.TheVariants.{Done}
 use Rattle.codes.specs.declared.refusals.Refusal.TheVariants.{TooLong, BadView}
 use Rattle.codes.proofs.CharLaws.{length-chars, get_or-chars}
 use Rattle.codes.proofs.Viewed.{view_passed}
 use Rattle.codes.proofs.WidthLaws.{below_or}
 use Rattle.order.specs.Order.{compare, common, pair_tests}
-use Rattle.order.specs.declared.answers.Order.{Order}
-use Rattle.order.specs.declared.answers.Order.TheVariants.{Less, Equal, Greater}
+use Rattle.std.specs.declared.cmp.Ordering.{Ordering}
+use Rattle.std.specs.declared.cmp.Ordering.TheVariants.{Less, Equal, Greater}
 use Rattle.fields.proofs.LoadLaws.{Bits, view_bits}
 use Rattle.fields.proofs.ViewLaws.{view_accepted}
 use Rattle.views.proofs.SliceLaws.{room_done}
+
+-- two numbers, as one character each, by what `cmp` answers
+by_rank : (x y : ℕ) (r : Ordering) → MatchOrdering r (x < y) (x ≡ y) (y < x) → r ≡ compare (x ∷ []) (y ∷ [])
+unfolding compare
+by_rank x y Less h = rw (lt-ltb x y h)
+by_rank x y Equal h = rw (le-ltb x y (omega (arith, h)), le-ltb y x (omega (arith, h)))
+by_rank x y Greater h = rw (le-ltb x y (le_of_lt h), lt-ltb y x h)
+
+pub by_cmp : (x y : ℕ) (r : Ordering) → r ≡ nat_cmp x y → r ≡ compare (x ∷ []) (y ∷ [])
+by_cmp x y r e = by_rank x y r (ranked x y r e)
 
 -- r characters are equal, and there is none behind them or it differs
 pub common-is : (xs ys : List ℕ) (r : ℕ) → r ≤ length xs → r ≤ length ys → ((j : ℕ) → j < r → get_or xs j 0 ≡ get_or ys j 0)
@@ -77,7 +89,7 @@ compare-ends (x ∷ xs) (y ∷ ys) d =
     ]
 
 -- where the first characters decide nothing, they are equal, and the rest decides
-behind : (x y : ℕ) (o : Order) → pick (ltb x y) Less (pick (ltb y x) Greater o) ≡ Equal → (x ≡ y) × (o ≡ Equal)
+behind : (x y : ℕ) (o : Ordering) → pick (ltb x y) Less (pick (ltb y x) Greater o) ≡ Equal → (x ≡ y) × (o ≡ Equal)
 behind x y o e =
     below_or x y (λ h. let z : ◌≡◌ {A = ℕ} 0 1 = cc (lt-ltb x y h) in absurd (omega arith))
     (λ h. below_or y x (λ l. let z : ◌≡◌ {A = ℕ} 0 1 = cc (le-ltb x y h, lt-ltb y x l) in absurd (omega arith)) (λ l. (omega arith, rw (le-ltb x y h, le-ltb y x l) at e)))
@@ -96,11 +108,11 @@ compare_same [] = refl
 compare_same (x ∷ xs) = rw (le-ltb x x (omega arith)) (compare_same xs)
 
 -- where two views are not refused, neither is
-pub pair_views : (w m ao al n bo bl : ℕ) → first (pair_tests w m ao al n bo bl) ≡ Done → (first (view_tests w m ao al) ≡ Done) × (first (view_tests w n bo bl) ≡ Done)
+pub pair_views : (w m ao al n bo bl : ℕ) → first (pair_tests w m ao al n bo bl) ≡ Ok tt → (first (view_tests w m ao al) ≡ Ok tt) × (first (view_tests w n bo bl) ≡ Ok tt)
 pair_views w m ao al n bo bl e = apart (ltb (2 ^ 28) m) (ltb (2 ^ 28) n) (ltb (m * per w) (ao + al + trailing * per w)) (ltb (n * per w) (bo + bl + trailing * per w)) e
   where
-    apart : (a b c d : Bool) → first ((a, TooLong) ∷ (b, TooLong) ∷ (c, BadView) ∷ (d, BadView) ∷ []) ≡ Done
-        → (first ((a, TooLong) ∷ (c, BadView) ∷ []) ≡ Done) × (first ((b, TooLong) ∷ (d, BadView) ∷ []) ≡ Done)
+    apart : (a b c d : Bool) → first ((a, TooLong) ∷ (b, TooLong) ∷ (c, BadView) ∷ (d, BadView) ∷ []) ≡ Ok tt
+        → (first ((a, TooLong) ∷ (c, BadView) ∷ []) ≡ Ok tt) × (first ((b, TooLong) ∷ (d, BadView) ∷ []) ≡ Ok tt)
     apart true b c d e = let z : ◌≡◌ {A = ℕ} 0 1 = cc in absurd (omega arith)
     apart false true c d e = let z : ◌≡◌ {A = ℕ} 0 1 = cc in absurd (omega arith)
     apart false false true d e = let z : ◌≡◌ {A = ℕ} 0 1 = cc in absurd (omega arith)
@@ -108,20 +120,20 @@ pair_views w m ao al n bo bl e = apart (ltb (2 ^ 28) m) (ltb (2 ^ 28) n) (ltb (m
     apart false false false false e = (refl, refl)
 
 -- two accepted views are accepted together
-pub pair_done : (w m ao al n bo bl : ℕ) → first (view_tests w m ao al) ≡ Done → first (view_tests w n bo bl) ≡ Done → first (pair_tests w m ao al n bo bl) ≡ Done
+pub pair_done : (w m ao al n bo bl : ℕ) → first (view_tests w m ao al) ≡ Ok tt → first (view_tests w n bo bl) ≡ Ok tt → first (pair_tests w m ao al n bo bl) ≡ Ok tt
 pair_done w m ao al n bo bl e f =
     let p = view_passed w m ao al e in
     let q = view_passed w n bo bl f in
     simp (p.0, p.1, q.0, q.1)
 
 -- a part of an accepted view is accepted as it is
-pub pair_cut : (w m ao al n bo bl at k : ℕ) → first (pair_tests w m ao al n bo bl) ≡ Done → at + k ≤ al → first (pair_tests w m (ao + at) k n bo bl) ≡ Done
+pub pair_cut : (w m ao al n bo bl at k : ℕ) → first (pair_tests w m ao al n bo bl) ≡ Ok tt → at + k ≤ al → first (pair_tests w m (ao + at) k n bo bl) ≡ Ok tt
 pair_cut w m ao al n bo bl at k e h =
     let v = pair_views w m ao al n bo bl e in
     let r = view_accepted w m ao al v.0 in
     pair_done w m (ao + at) k n bo bl (room_done w m (ao + at) k (record { small = r.small; fits = omega (arith, r.fits) })) v.1
 
-pub pair_bits : {w : ℕ} → IsWidth w → (m ao al n bo bl : ℕ) → first (pair_tests w m ao al n bo bl) ≡ Done → Bits w m ao al × Bits w n bo bl
+pub pair_bits : {w : ℕ} → IsWidth w → (m ao al n bo bl : ℕ) → first (pair_tests w m ao al n bo bl) ≡ Ok tt → Bits w m ao al × Bits w n bo bl
 pair_bits {w} W m ao al n bo bl e =
     let v = pair_views w m ao al n bo bl e in
     (view_bits W m ao al v.0, view_bits W n bo bl v.1)

@@ -1,6 +1,7 @@
 -- Only the characters of two views count: accepted views with equal characters get equal answers, call by call. Each answer is made
 -- of the outcome, the lengths and the characters alone.
 -- Assumes nothing.
+use Rattle.std.specs.Prelude.{Ok}
 use mathlib.Core.Bool.{Bool, true, false}
 use mathlib.Core.List.{List}
 use mathlib.Core.Path.{◌≡◌, sym, ◌∙◌}
@@ -8,9 +9,7 @@ use Prim.Native.Nat.{ℕ}
 use lib.IntN.{pos}
 use lib.ListN.{length}
 use Rattle.codes.specs.Codes.{IsWidth, chars, pick}
-use Rattle.codes.specs.Refusals.{answer, first, view_tests}
-use Rattle.codes.specs.declared.refusals.Outcome.{Outcome}
-use Rattle.codes.specs.declared.refusals.Outcome.TheVariants.{Done}
+use Rattle.codes.specs.Refusals.{answer, first, view_tests, Outcome}
 use Rattle.order.specs.Order.{pair_outcome, pair_order, compare, common, place_of, order_number, compared, placed, found, is_second, chosen}
 use Rattle.fields.specs.Spans.{Span}
 use Rattle.codes.proofs.CharLaws.{same_length}
@@ -21,7 +20,7 @@ use Rattle.order.proofs.OrderLaws.{pair_done}
 
 -- the part that comes first is an accepted view, with the characters of the view that does
 module _ {w : ℕ} (W : IsWidth w) (s : Span) (ao al : ℕ) (t : Span) (bo bl : ℕ) where
-  pub chosen-holds : first (view_tests w (length s.bytes) ao al) ≡ Done → first (view_tests w (length t.bytes) bo bl) ≡ Done
+  pub chosen-holds : first (view_tests w (length s.bytes) ao al) ≡ Ok tt → first (view_tests w (length t.bytes) bo bl) ≡ Ok tt
       → ((chosen w s ao al t bo bl).no ≡ 0)
       × Holds w (pick (is_second (pair_order w s.bytes ao al t.bytes bo bl)) (chars w t.bytes bo bl) (chars w s.bytes ao al)) (chosen w s ao al t bo bl).values
   unfolding chosen

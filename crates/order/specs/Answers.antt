@@ -1,24 +1,21 @@
 -- What each answer of this crate says: its number, and its other numbers.
 -- Assumes nothing.
-use Rattle.std.specs.Prelude.{Bool, true, false, ℕ, ℤ, pos}
-use Rattle.codes.specs.Refusals.{Answer, answer}
-use Rattle.codes.specs.declared.refusals.Outcome.TheVariants.{Done, Refused}
-use Rattle.order.specs.Order.{order_number}
+use Rattle.std.specs.Prelude.{Result, Option, Some, None, Bool, false, ℕ, ℤ, pos}
+use Rattle.codes.specs.Answers.{says_by}
+use Rattle.codes.specs.Refusals.{Answer}
+use Rattle.codes.specs.declared.refusals.Refusal.{Refusal}
+use Rattle.codes.specs.declared.units.Chars.{Chars}
+use Rattle.order.specs.Order.{order_number, placed}
 use Rattle.order.specs.declared.answers.Compared.{Compared}
-use Rattle.order.specs.declared.answers.Found.{Found}
-use Rattle.order.specs.declared.answers.Least.{Least}
 
-abbrev pub compared_says : Compared → Answer (ℤ × ℕ)
-compared_says (Compared.Is o n) = answer Done (order_number o, n.0) (pos 0, 0)
-compared_says (Compared.Refused r) = answer (Refused r) (pos 0, 0) (pos 0, 0)
+abbrev pub compared_says : Result Compared Refusal → Answer (ℤ × ℕ)
+compared_says r = says_by (λ c. (order_number c.order, c.common.0)) (pos 0, 0) r
+
+-- a place as a number
+abbrev pub counted : Option Chars → Option ℕ
+counted None = None
+counted (Some p) = Some p.0
 
 -- whether it was found, and the place
-abbrev pub found_says : Found → Answer (Bool × ℕ)
-found_says (Found.At p) = answer Done (true, p.0) (false, 0)
-found_says Found.Absent = answer Done (false, 0) (false, 0)
-found_says (Found.Refused r) = answer (Refused r) (false, 0) (false, 0)
-
--- the offset and the length of the part
-abbrev pub least_says : Least → Answer (ℕ × ℕ)
-least_says (Least.Is o n) = answer Done (o.0, n.0) (0, 0)
-least_says (Least.Refused r) = answer (Refused r) (0, 0) (0, 0)
+abbrev pub found_says : Result (Option Chars) Refusal → Answer (Bool × ℕ)
+found_says r = says_by (λ p. placed (counted p)) (false, 0) r

@@ -1,30 +1,28 @@
 -- Order: comparing, finding and choosing among lists of characters; what each call on two views answers.
 -- Assumes nothing.
-use Rattle.std.specs.Prelude.{Bool, true, false, ◌&&◌, List, [], ◌∷◌, ℕ, suc, ltb, eqb, ℤ, pos, negsuc, length}
-use Rattle.std.proofs.Math.Option.{Option, some, none}
+use Rattle.std.specs.Prelude.{Result, Bool, true, false, ◌&&◌, List, [], ◌∷◌, ℕ, suc, ltb, eqb, ℤ, pos, negsuc, length, Option, Some, None}
+use Rattle.std.specs.declared.cmp.Ordering.{Ordering}
+use Rattle.std.specs.declared.cmp.Ordering.TheVariants.{Less, Equal, Greater}
 use Rattle.codes.specs.Codes.{pick, chars}
-use Rattle.codes.specs.Refusals.{Test, Answer, answer, first, too_long, bad_view, if_done}
-use Rattle.codes.specs.declared.refusals.Outcome.{Outcome}
+use Rattle.codes.specs.Refusals.{Test, Answer, answer, first, too_long, bad_view, giving, Outcome}
 use Rattle.fields.specs.Spans.{Span}
 use Rattle.views.specs.Views.{Lent, empty, normal}
-use Rattle.order.specs.declared.answers.Order.{Order}
-use Rattle.order.specs.declared.answers.Order.TheVariants.{Less, Equal, Greater}
-use Rattle.order.specs.declared.inner.least.Choice.{Choice}
+use Rattle.codes.specs.declared.refusals.Refusal.{Refusal}
 
 -- −1, 0 or 1
-abbrev pub order_number : Order → ℤ
+abbrev pub order_number : Ordering → ℤ
 order_number Less = negsuc 0
 order_number Equal = pos 0
 order_number Greater = pos 1
 
 -- the second comes first; at a tie the first does
-abbrev pub is_second : Order → Bool
+abbrev pub is_second : Ordering → Bool
 is_second Less = false
 is_second Equal = false
 is_second Greater = true
 
 -- the first differing character decides, by code; else the shorter is first
-unfoldable pub compare : List ℕ → List ℕ → Order
+unfoldable pub compare : List ℕ → List ℕ → Ordering
 compare [] [] = Equal
 compare [] (y ∷ ys) = Less
 compare (x ∷ xs) [] = Greater
@@ -44,18 +42,18 @@ stands (x ∷ xs) (y ∷ ys) = eqb x y && stands xs ys
 
 -- a place, one further on
 abbrev pub one_on : Option ℕ → Option ℕ
-one_on none = none
-one_on (some p) = some (suc p)
+one_on None = None
+one_on (Some p) = Some (suc p)
 
 -- the least place where a pattern stands in a text
 unfoldable pub place_of : List ℕ → List ℕ → Option ℕ
-place_of xs [] = pick (stands xs []) (some 0) none
-place_of xs (y ∷ ys) = pick (stands xs (y ∷ ys)) (some 0) (one_on (place_of xs ys))
+place_of xs [] = pick (stands xs []) (Some 0) None
+place_of xs (y ∷ ys) = pick (stands xs (y ∷ ys)) (Some 0) (one_on (place_of xs ys))
 
 -- whether there is a place, and which; 0 where there is none
 abbrev pub placed : Option ℕ → Bool × ℕ
-placed none = (false, 0)
-placed (some p) = (true, p)
+placed None = (false, 0)
+placed (Some p) = (true, p)
 
 -- the refusals of two views, of m and n bytes
 abbrev pub pair_tests : ℕ → ℕ → ℕ → ℕ → ℕ → ℕ → ℕ → List Test
@@ -65,7 +63,7 @@ module _ (w : ℕ) (xs : List ℕ) (ao al : ℕ) (bs : List ℕ) (bo bl : ℕ) w
   abbrev pub pair_outcome : Outcome
   pair_outcome = first (pair_tests w (length xs) ao al (length bs) bo bl)
 
-  abbrev pub pair_order : Order
+  abbrev pub pair_order : Ordering
   pair_order = compare (chars w xs ao al) (chars w bs bo bl)
 
   -- the order, and the count of equal leading characters
@@ -76,9 +74,9 @@ module _ (w : ℕ) (xs : List ℕ) (ao al : ℕ) (bs : List ℕ) (bo bl : ℕ) w
   unfoldable pub found : Answer (Bool × ℕ)
   found = answer pair_outcome (placed (place_of (chars w bs bo bl) (chars w xs ao al))) (false, 0)
 
-  -- which of the two comes first
-  abbrev pub choice : Choice
-  choice = record { second = if_done pair_outcome (is_second pair_order) false; outcome = pair_outcome }
+  -- whether the second comes first
+  abbrev pub choice : Result Bool Refusal
+  choice = giving pair_outcome (is_second pair_order)
 
 -- the normalised part of the view that comes first; where a view is refused, the empty part at the front of the first
 unfoldable pub chosen : ℕ → Span → ℕ → ℕ → Span → ℕ → ℕ → Answer Lent

@@ -1,32 +1,10 @@
-// What comparing, finding and choosing answer.
-use codes::refusals::Refusal;
+// What comparing answers.
 use codes::units::Chars;
+use std::cmp::Ordering;
 
+// The order of two views, and the count of their equal leading characters.
 #[derive(Clone, Copy)]
-pub enum Order {
-    Less,
-    Equal,
-    Greater,
-}
-
-// The order, and the count of equal leading characters.
-#[derive(Clone, Copy)]
-pub enum Compared {
-    Is(Order, Chars),
-    Refused(Refusal),
-}
-
-// The least place of a pattern in a text.
-#[derive(Clone, Copy)]
-pub enum Found {
-    At(Chars),
-    Absent,
-    Refused(Refusal),
-}
-
-// The offset and the length of the part that comes first.
-#[derive(Clone, Copy)]
-pub enum Least {
-    Is(Chars, Chars),
-    Refused(Refusal),
+pub struct Compared {
+    pub order: Ordering,
+    pub common: Chars,
 }

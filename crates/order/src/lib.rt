@@ -1,7 +1,6 @@
-// Two views: compared, searched one in the other, chosen between; at width 2 in `bases`, at width 1 in `flags`.
+// Two views: compared, searched one in the other, chosen between.
 #![tactic(auto)]
 
 pub mod answers;
-pub mod bases;
-pub mod flags;
+pub mod calls;
 pub mod inner;

@@ -1,30 +1,30 @@
 -- Bases against their reverse complement: both views are right, and the order that comparing them answers is theirs.
 -- Assumes nothing.
+use Rattle.std.specs.Prelude.{Ok, Result, IsOk}
 use mathlib.Core.List.{List, ◌++◌, map}
 use mathlib.Core.Path.{◌≡◌, sym, ap, ap₂, ◌∙◌, subst}
 use Prim.Native.Nat.{ℕ, ◌+◌, ◌*◌, ◌/◌, ◌%◌, ◌^◌, ◌≤◌}
 use native.Mathlib.Nat.{div-lt_iff_lt-mul}
 use native.Mathlib.Omega.{arith}
 use borrow.Author.Tests.{le-ltb}
-use lib.IntN.{pos}
+use lib.IntN.{ℤ, pos}
 use lib.ListN.{length, get_or, length-map, length-reverse, get_or-append}
 use Rattle.codes.specs.Codes.{IsWidth, per, up, trailing, char_at, chars, complement}
-use Rattle.codes.specs.Refusals.{answer, if_done}
+use Rattle.codes.specs.Refusals.{answer, if_done, Outcome}
 use Rattle.codes.specs.Words.{packed}
-use Rattle.codes.specs.declared.refusals.Outcome.{Outcome}
-use Rattle.codes.specs.declared.refusals.Outcome.TheVariants.{Done}
 use Rattle.codes.specs.declared.refusals.Refusal.{Refusal}
-use Rattle.codes.specs.declared.units.Chars.{Chars}
 use Rattle.codes.proofs.CharLaws.{length-chars, chars-ext, chars-fit, length-pack, unpacked}
 use Rattle.codes.proofs.CodeLaws.{complement-fits}
-use Rattle.codes.proofs.WidthLaws.{width_2, per_pos, up-hi}
+use Rattle.codes.specs.Widths.{width_2}
+use Rattle.codes.proofs.WidthLaws.{per_pos, up-hi}
 use Rattle.codes.proofs.WordLaws.{Below, Below-reverse, Below-through}
-use Rattle.order.proofs.AnswerLaws.{compared_by, compared_is}
+use Rattle.std.specs.declared.cmp.Ordering.{Ordering}
+use Rattle.codes.proofs.RefusalLaws.{says_done, values_of}
+use Rattle.order.proofs.AnswerLaws.{order_at, order_back}
 use Rattle.order.specs.Answers.{compared_says}
 use Rattle.order.specs.Order.{compare, common, order_number, pair_outcome, compared}
 use Rattle.fields.specs.Fields.{flipped}
 use Rattle.writes.specs.Writes.{flip_outcome, flipped_over}
-use Rattle.order.specs.declared.answers.Order.{Order}
 use Rattle.order.specs.declared.answers.Compared.{Compared}
 
 -- a view of the front of a buffer
@@ -60,12 +60,12 @@ module _ (bs other : List ℕ) (n : ℕ) (h : n ≤ 16384) (lb : length bs ≡ 4
   abbrev cs : List ℕ
   cs = chars 2 bs 0 n
 
-  flip_done : flip_outcome 2 bs 0 n other ≡ Done
+  flip_done : flip_outcome 2 bs 0 n other ≡ Ok tt
   unfolding flip_outcome
   flip_done =
       rw (le-ltb (2 ^ 28) (length bs) (omega arith), le-ltb (length bs * 4) (0 + n + trailing * 4) (omega arith), le-ltb (length other) (up 2 n + trailing) (omega arith))
 
-  pair_done : (other' : List ℕ) → length other' ≡ length other → pair_outcome 2 bs 0 n other' 0 n ≡ Done
+  pair_done : (other' : List ℕ) → length other' ≡ length other → pair_outcome 2 bs 0 n other' 0 n ≡ Ok tt
   pair_done other' l =
       rw (
         le-ltb (2 ^ 28) (length bs) (omega arith),
@@ -76,25 +76,28 @@ module _ (bs other : List ℕ) (n : ℕ) (h : n ≤ 16384) (lb : length bs ≡ 4
 
   -- z is the offset, m the length
   module _ (o : Outcome) (other' : List ℕ) (z m : ℕ) (ez : z ≡ 0) (em : m ≡ n) (e : o ≡ flip_outcome 2 bs z m other) (w : other' ≡ if_done o (flipped_over 2 bs z m other) other) where
+    pub flip-passed : o ≡ Ok tt
+    flip-passed = e ∙ ap₂ (λ (a b : ℕ). flip_outcome 2 bs a b other) ez em ∙ flip_done
+
     pub flip-left : other' ≡ flipped_over 2 bs 0 n other
     flip-left =
-        let d : o ≡ Done = e ∙ ap₂ (λ (a b : ℕ). flip_outcome 2 bs a b other) ez em ∙ flip_done in
-        w ∙ ap₂ (λ (a b : ℕ). if_done o (flipped_over 2 bs a b other) other) ez em ∙ ap (λ (x : Outcome). if_done x (flipped_over 2 bs 0 n other) other) d
+        w ∙ ap₂ (λ (a b : ℕ). if_done o (flipped_over 2 bs a b other) other) ez em ∙ ap (λ (x : Outcome). if_done x (flipped_over 2 bs 0 n other) other) flip-passed
 
-    pub strand-order : (r : Compared) → length other' ≡ length other → compared_says r ≡ compared 2 bs z m other' z m → r ≡ compared_by Done (compare cs (flipped 2 cs)) (common cs (flipped 2 cs))
+    pub strand-order : (r : Result Compared Refusal) → length other' ≡ length other → compared_says r ≡ compared 2 bs z m other' z m
+        → compared_says r ≡ answer (Ok tt) (order_number (compare cs (flipped 2 cs)), common cs (flipped 2 cs)) (pos 0, 0)
     unfolding compared
     strand-order r l s =
-        compared_is r Done (compare cs (flipped 2 cs)) (common cs (flipped 2 cs))
-        (s
+        s
         ∙ ap₂ (λ (a b : ℕ). compared 2 bs a b other' a b) ez em
         ∙ ap₂ (λ (x : Outcome) (y : List ℕ). answer x (order_number (compare cs y), common cs y) (pos 0, 0)) (pair_done other' l)
-        (ap (λ (x : List ℕ). chars 2 x 0 n) flip-left ∙ flipped-chars width_2 bs 0 n other))
+        (ap (λ (x : List ℕ). chars 2 x 0 n) flip-left ∙ flipped-chars width_2 bs 0 n other)
 
--- the order in an answer, and none in a refusal
-pub is_order : (r : Compared) (p o : Order) (k n : Chars) → r ≡ Compared.Is p k → r ≡ Compared.Is o n → p ≡ o
-is_order r p o k n e f = cc
+-- where comparing answers an order, it is done, and the order is that one
+module _ (r : Result Compared Refusal) (o : Ordering) (n : ℕ) (e : compared_says r ≡ answer (Ok tt) (order_number o, n) (pos 0, 0)) where
+  pub is_done : IsOk r
+  is_done = says_done (λ c. (order_number c.order, c.common.0)) (pos 0, 0) (order_number o, n) r e
 
-pub never_refused : (r : Compared) (x : Refusal) (o : Order) (n : Chars) → r ≡ Compared.Refused x → r ≡ Compared.Is o n → ⊥
-never_refused r x o n e f =
-    let z : ◌≡◌ {A = ℕ} 0 1 = cc in
-    omega arith
+  pub is_order : (c : Compared) → r ≡ Ok c → c.order ≡ o
+  is_order c f =
+      let v = values_of (ap compared_says (sym f) ∙ e) in
+      order_back c.order ∙ ap (λ (x : ℤ × ℕ). order_at x.0) v ∙ sym (order_back o)

@@ -4,8 +4,8 @@ use Rattle.std.specs.Prelude.{List, [], ◌∷◌, ◌++◌, ◌≡◌, ℕ, zer
 use Rattle.std.proofs.lemmas.List.Edits.{sets}
 use Rattle.codes.specs.Codes.{pick}
 use Rattle.order.specs.Order.{compare}
-use Rattle.order.specs.declared.answers.Order.{Order}
-use Rattle.order.specs.declared.answers.Order.TheVariants.{Less, Equal, Greater}
+use Rattle.std.specs.declared.cmp.Ordering.{Ordering}
+use Rattle.std.specs.declared.cmp.Ordering.TheVariants.{Less, Equal, Greater}
 use Rattle.fields.specs.Fields.{flipped}
 
 -- a number in decimal, in at most k digits
@@ -17,7 +17,7 @@ abbrev pub decimal : ℕ → List ℕ
 decimal = decimal_in 20
 
 -- `<`, `=` or `>`
-abbrev pub sign : Order → ℕ
+abbrev pub sign : Ordering → ℕ
 sign Less = 60
 sign Equal = 61
 sign Greater = 62

@@ -15,7 +15,8 @@ use Rattle.codes.specs.Words.{word, chars_of}
 use Rattle.codes.proofs.CodeLaws.{code_lt}
 use Rattle.codes.proofs.FieldLaws.{char_at-is}
 use Rattle.codes.proofs.TabLaws.{get_or-tab, Below-tab, Below-of, tab-at}
-use Rattle.codes.proofs.WidthLaws.{below_or, width_1}
+use Rattle.codes.specs.Widths.{width_1}
+use Rattle.codes.proofs.WidthLaws.{below_or}
 use Rattle.codes.proofs.WordLaws.{Below, length-chars_of}
 use Rattle.fields.proofs.LoadLaws.{loaded_char}
 use Rattle.runs.specs.Bytes.{letters_word}
@@ -101,9 +102,6 @@ module _ (ls : List ℕ) where
     -- y is the stack of the first k words
     abbrev pub Stacked : ℕ → ℕ → Type 0
     Stacked k y = (j : ℕ) → j < 64 → (j % 8 < k → bit y j ≡ flag_at j) × (k ≤ j % 8 → bit y j ≡ 0)
-
-    pub stacked_none : Stacked 0 0
-    stacked_none j h = (λ l. absurd (omega arith), λ l. ap (λ (y : ℕ). y % 2) (zero-div (2 ^ j)))
 
     module _ (k : ℕ) (l : k < 8) (v : ℕ) (e : Spread (i + 8 * k) v) where
       -- word k, shifted up by k

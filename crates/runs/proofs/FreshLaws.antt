@@ -28,14 +28,10 @@ fresh_lt w old at cs stop h i k = splice-lt (λ j. old / 2 ^ (w * k) % 2 ^ w) at
 pub word-tab_lt : (w n : ℕ) (f : ℕ → ℕ) → ((i : ℕ) → f i < 2 ^ w) → word w (tab n f) < 2 ^ (w * n)
 word-tab_lt w n f h = subst (λ (e : ℕ). word w (tab n f) < 2 ^ (w * e)) (length-tab n f) (word_lt w (tab n f) (Below-tab w n f h))
 
--- a byte made anew of the same byte; so a run grows by what is made of the buffer as it is
+-- a byte made anew of the same byte
 module _ (w at : ℕ) (cs : List ℕ) (stop : ℕ) where
   anew-same : (d e : List ℕ) (j : ℕ) → get_or e j 0 ≡ get_or d j 0 → anew w e at cs stop j ≡ anew w d at cs stop j
   anew-same d e j q = ap (λ (x : ℕ). fresh_byte w x at cs stop j) q
-
-  pub anew-more : {from j v : ℕ} {d e : List ℕ} → Made (anew w d at cs stop) from j d e → from ≤ j → j < length d → v ≡ anew w e at cs stop j
-      → Made (anew w d at cs stop) from (j + 1) d (set e j v)
-  anew-more {j = j} {d = d} {e} z a l q = made_more z a l (q ∙ anew-same d e j (made-next z))
 
 module _ {w : ℕ} (W : IsWidth w) (d : List ℕ) (at : ℕ) (cs : List ℕ) (stop : ℕ) where
   -- character i of the new buffer, and byte b

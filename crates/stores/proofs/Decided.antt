@@ -1,55 +1,36 @@
 -- For each public call: any two permitted outcomes coincide.
 -- Assumes nothing.
+use denote.Param.Laws.{Laws}
+use denote.RattleType.{RattleType}
+use mir.Syntax.{Dict}
+use Rattle.codes.specs.declared.widths.Width.{Ghosts}
 use Rattle.codes.proofs.Permitted.{Once, skip}
 use Rattle.codes.proofs.RefusalLaws.{leaves_once}
 use Rattle.stores.proofs.AnswerLaws.{pushed_told, kept_told}
-use Rattle.stores.proofs.bases.clear.Kinds as bases-clear·kinds
-use Rattle.stores.proofs.bases.clear.Reads as bases-clear
-use Rattle.stores.proofs.bases.push_ascii.Kinds as bases-push-ascii·kinds
-use Rattle.stores.proofs.bases.push_ascii.Reads as bases-push-ascii
-use Rattle.stores.proofs.bases.push_seq.Kinds as bases-push-seq·kinds
-use Rattle.stores.proofs.bases.push_seq.Reads as bases-push-seq
-use Rattle.stores.proofs.bases.overwrite.Kinds as bases-overwrite·kinds
-use Rattle.stores.proofs.bases.overwrite.Reads as bases-overwrite
-use Rattle.stores.proofs.bases.cut.Kinds as bases-cut·kinds
-use Rattle.stores.proofs.bases.cut.Reads as bases-cut
-use Rattle.stores.proofs.flags.clear.Kinds as flags-clear·kinds
-use Rattle.stores.proofs.flags.clear.Reads as flags-clear
-use Rattle.stores.proofs.flags.push_ascii.Kinds as flags-push-ascii·kinds
-use Rattle.stores.proofs.flags.push_ascii.Reads as flags-push-ascii
-use Rattle.stores.proofs.flags.push_seq.Kinds as flags-push-seq·kinds
-use Rattle.stores.proofs.flags.push_seq.Reads as flags-push-seq
-use Rattle.stores.proofs.flags.overwrite.Kinds as flags-overwrite·kinds
-use Rattle.stores.proofs.flags.overwrite.Reads as flags-overwrite
-use Rattle.stores.proofs.flags.cut.Kinds as flags-cut·kinds
-use Rattle.stores.proofs.flags.cut.Reads as flags-cut
+use Rattle.stores.proofs.calls.clear.Kinds as clear·kinds
+use Rattle.stores.proofs.calls.clear.Reads as clear
+use Rattle.stores.proofs.calls.push_ascii.Kinds as push-ascii·kinds
+use Rattle.stores.proofs.calls.push_ascii.Reads as push-ascii
+use Rattle.stores.proofs.calls.push_seq.Kinds as push-seq·kinds
+use Rattle.stores.proofs.calls.push_seq.Reads as push-seq
+use Rattle.stores.proofs.calls.overwrite.Kinds as overwrite·kinds
+use Rattle.stores.proofs.calls.overwrite.Reads as overwrite
+use Rattle.stores.proofs.calls.cut.Kinds as cut·kinds
+use Rattle.stores.proofs.calls.cut.Reads as cut
 
-pub bases_clear_decided : Once 1 bases-clear·kinds.ps bases-clear·kinds.r bases-clear.Post
-bases_clear_decided κs a x y v w p q = λ i. let e = leaves_once kept_told x y p q i in (e.0, (e.1, tt))
+-- at every width W
+module _ (T : RattleType) (L : Laws T) (W : Ghosts T.Denot) (D : Dict) where
+  pub clear_decided : Once 2 (clear·kinds.ps T L) (clear·kinds.r T L) (clear.Post T L W D)
+  clear_decided κs a x y v w p q = λ i. let e = leaves_once kept_told x y p q i in (e.0, (e.1, tt))
 
-pub bases_push_ascii_decided : Once 2 bases-push-ascii·kinds.ps bases-push-ascii·kinds.r bases-push-ascii.Post
-bases_push_ascii_decided κs a x y v w p q = λ i. let e = leaves_once pushed_told x y p q i in (e.0, (e.1, skip 2 tt))
+  pub push_ascii_decided : Once 3 (push-ascii·kinds.ps T L) (push-ascii·kinds.r T L) (push-ascii.Post T L W D)
+  push_ascii_decided κs a x y v w p q = λ i. let e = leaves_once pushed_told x y p q i in (e.0, (e.1, skip 2 tt))
 
-pub bases_push_seq_decided : Once 2 bases-push-seq·kinds.ps bases-push-seq·kinds.r bases-push-seq.Post
-bases_push_seq_decided κs a x y v w p q = λ i. let e = leaves_once pushed_told x y p q i in (e.0, (e.1, skip 4 tt))
+  pub push_seq_decided : Once 3 (push-seq·kinds.ps T L) (push-seq·kinds.r T L) (push-seq.Post T L W D)
+  push_seq_decided κs a x y v w p q = λ i. let e = leaves_once pushed_told x y p q i in (e.0, (e.1, skip 4 tt))
 
-pub bases_overwrite_decided : Once 2 bases-overwrite·kinds.ps bases-overwrite·kinds.r bases-overwrite.Post
-bases_overwrite_decided κs a x y v w p q = λ i. let e = leaves_once kept_told x y p q i in (e.0, (e.1, skip 3 tt))
+  pub overwrite_decided : Once 3 (overwrite·kinds.ps T L) (overwrite·kinds.r T L) (overwrite.Post T L W D)
+  overwrite_decided κs a x y v w p q = λ i. let e = leaves_once kept_told x y p q i in (e.0, (e.1, skip 3 tt))
 
-pub bases_cut_decided : Once 1 bases-cut·kinds.ps bases-cut·kinds.r bases-cut.Post
-bases_cut_decided κs a x y v w p q = λ i. let e = leaves_once kept_told x y p q i in (e.0, (e.1, skip 2 tt))
-
-pub flags_clear_decided : Once 1 flags-clear·kinds.ps flags-clear·kinds.r flags-clear.Post
-flags_clear_decided κs a x y v w p q = λ i. let e = leaves_once kept_told x y p q i in (e.0, (e.1, tt))
-
-pub flags_push_ascii_decided : Once 2 flags-push-ascii·kinds.ps flags-push-ascii·kinds.r flags-push-ascii.Post
-flags_push_ascii_decided κs a x y v w p q = λ i. let e = leaves_once pushed_told x y p q i in (e.0, (e.1, skip 2 tt))
-
-pub flags_push_seq_decided : Once 2 flags-push-seq·kinds.ps flags-push-seq·kinds.r flags-push-seq.Post
-flags_push_seq_decided κs a x y v w p q = λ i. let e = leaves_once pushed_told x y p q i in (e.0, (e.1, skip 4 tt))
-
-pub flags_overwrite_decided : Once 2 flags-overwrite·kinds.ps flags-overwrite·kinds.r flags-overwrite.Post
-flags_overwrite_decided κs a x y v w p q = λ i. let e = leaves_once kept_told x y p q i in (e.0, (e.1, skip 3 tt))
-
-pub flags_cut_decided : Once 1 flags-cut·kinds.ps flags-cut·kinds.r flags-cut.Post
-flags_cut_decided κs a x y v w p q = λ i. let e = leaves_once kept_told x y p q i in (e.0, (e.1, skip 2 tt))
+  pub cut_decided : Once 2 (cut·kinds.ps T L) (cut·kinds.r T L) (cut.Post T L W D)
+  cut_decided κs a x y v w p q = λ i. let e = leaves_once kept_told x y p q i in (e.0, (e.1, skip 2 tt))

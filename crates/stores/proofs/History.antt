@@ -2,12 +2,12 @@
 -- characters which the calls alone give; the first bytes are these characters packed afresh, unused bits zero; 48 zero bytes
 -- stand behind them; the store's characters are these; and the buffer is as long as it was. At every width.
 -- Assumes nothing.
+use Rattle.std.specs.Prelude.{Ok}
 use mathlib.Core.List.{List, []}
 use mathlib.Core.Path.{◌≡◌, ap, ◌∙◌}
 use Prim.Native.Nat.{ℕ}
 use lib.ListN.{length}
 use Rattle.codes.specs.Codes.{IsWidth, chars}
-use Rattle.codes.specs.declared.refusals.Outcome.TheVariants.{Done}
 use Rattle.stores.specs.History.{Store, Packed, step, run}
 use Rattle.stores.specs.History as Histories
 use Rattle.stores.specs.Stores.{Call, clear, outcome}
@@ -24,6 +24,6 @@ kept_packed {w} W K = record {
   size_kept = K.size;
 }
 
-pub history : {w : ℕ} → IsWidth w → (bs : List ℕ) (old : ℕ) → outcome w (length bs) 0 clear ≡ Done → (cs : List Call)
+pub history : {w : ℕ} → IsWidth w → (bs : List ℕ) (old : ℕ) → outcome w (length bs) 0 clear ≡ Ok tt → (cs : List Call)
     → Packed w (length bs) (run w (step w (record { bytes = bs; len = old }) clear) cs) (Histories.history w (length bs) [] cs)
 history W bs old e cs = kept_packed W (history-kept W bs old e cs)

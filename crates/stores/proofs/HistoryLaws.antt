@@ -1,5 +1,6 @@
 -- The laws of a history: each call keeps what a store holds, and answers its length.
 -- Assumes nothing.
+use Rattle.std.specs.Prelude.{Ok, Err}
 use mathlib.Core.List.{List, [], ◌∷◌, map}
 use mathlib.Core.Path.{◌≡◌, refl, sym, ap, ◌∙◌, subst}
 use Prim.Native.Nat.{ℕ, ◌+◌, ◌^◌, ◌≤◌, zero-le}
@@ -10,7 +11,6 @@ use lib.ListN.{length, length-map}
 use lib.Pow.{pow_pos}
 use Rattle.codes.specs.Codes.{IsWidth, up, trailing, code}
 use Rattle.codes.specs.Refusals.{if_done}
-use Rattle.codes.specs.declared.refusals.Outcome.TheVariants.{Done, Refused}
 use Rattle.codes.specs.declared.refusals.Refusal.{Refusal}
 use Rattle.codes.proofs.CharLaws.{length-pack}
 use Rattle.codes.proofs.WidthLaws.{up_le, up-mono}
@@ -22,7 +22,7 @@ use Rattle.stores.proofs.HoldLaws.{Holds, Good, good_still, good_from, good_over
 use Rattle.runs.proofs.SeqLaws.{seq_lt, seq_end}
 use Rattle.runs.proofs.SpliceLaws.{codes_lt}
 
-pub clear_done : (w m len : ℕ) → m ≤ 2 ^ 28 → trailing ≤ m → Done ≡ outcome w m len clear
+pub clear_done : (w m len : ℕ) → m ≤ 2 ^ 28 → trailing ≤ m → (Ok tt) ≡ outcome w m len clear
 unfolding outcome
 clear_done w m len hi lo = rw (le-ltb (2 ^ 28) m hi, le-ltb m trailing lo)
 
@@ -66,7 +66,7 @@ module _ {w : ℕ} (W : IsWidth w) where
         by_outcome (λ o. Good w bs h (if_done o (deed w len c) still)) (outcome w m len c) (λ e. deed-good c (done_passed (tests w m len c) e)) (λ r e. good_still W bs h H)
 
     -- no clear of such a store is refused
-    old_length_lem : (c : Call) (r : Refusal) → Refused r ≡ outcome w m len c → old_length len c ≡ len
+    old_length_lem : (c : Call) (r : Refusal) → Err r ≡ outcome w m len c → old_length len c ≡ len
     old_length_lem clear r e = let z : ◌≡◌ {A = ℕ} 0 1 = cc (clear_done w m len H.small (omega (arith, H.room))) in absurd (omega arith)
     old_length_lem (push_ascii ls) r e = refl
     old_length_lem (push_seq vs o n) r e = refl
@@ -102,7 +102,7 @@ module _ {w : ℕ} (W : IsWidth w) where
       (subst (λ (x : ℕ). Kept (step w s c) (chars_after h (edit w x (length h) c)) x) K.size (step_kept s h c (length h) refl K.lengths K.holds))
 
   -- the store that an accepted clear leaves
-  pub clear_kept : (bs : List ℕ) (old : ℕ) → outcome w (length bs) 0 clear ≡ Done → Kept (step w (record { bytes = bs; len = old }) clear) [] (length bs)
+  pub clear_kept : (bs : List ℕ) (old : ℕ) → outcome w (length bs) 0 clear ≡ Ok tt → Kept (step w (record { bytes = bs; len = old }) clear) [] (length bs)
   unfolding outcome after answered written
   clear_kept bs old e =
       let p : Passed (tests w (length bs) 0 clear) = done_passed (tests w (length bs) 0 clear) (sym e) in
@@ -116,6 +116,6 @@ module _ {w : ℕ} (W : IsWidth w) where
         size = length-pack w (length bs) _;
       })
 
-  pub history-kept : (bs : List ℕ) (old : ℕ) → outcome w (length bs) 0 clear ≡ Done → (cs : List Call)
+  pub history-kept : (bs : List ℕ) (old : ℕ) → outcome w (length bs) 0 clear ≡ Ok tt → (cs : List Call)
       → Kept (run w (step w (record { bytes = bs; len = old }) clear) cs) (history w (length bs) [] cs) (length bs)
   history-kept bs old e cs = run-kept cs (step w (record { bytes = bs; len = old }) clear) [] (length bs) (clear_kept bs old e)

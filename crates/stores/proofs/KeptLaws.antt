@@ -1,5 +1,6 @@
 -- The laws of characters that a call leaves: those below the old and the new length that it does not overwrite.
 -- Assumes nothing.
+use Rattle.std.specs.Prelude.{Ok}
 use mathlib.Core.List.{List, [], ◌∷◌, map}
 use mathlib.Core.Path.{◌≡◌, refl, sym, ◌∙◌}
 use Prim.Native.Nat.{ℕ, ◌+◌, ◌*◌, ◌/◌, ◌^◌, ◌≤◌, ◌<◌}
@@ -10,7 +11,6 @@ use lib.Pow.{pow_pos}
 use Rattle.codes.specs.Codes.{IsWidth, per, char_at, code}
 use Rattle.codes.specs.Refusals.{if_done}
 use Rattle.codes.specs.Words.{pack}
-use Rattle.codes.specs.declared.refusals.Outcome.TheVariants.{Done}
 use Rattle.codes.proofs.CharLaws.{char_at-lt, char_at-pack, length-pack}
 use Rattle.codes.proofs.WidthLaws.{below_or, per_pos}
 use Rattle.stores.specs.Changes.{Overwrites}
@@ -55,13 +55,13 @@ module _ {w : ℕ} (W : IsWidth w) where
       deed-char (cut n) i l m h = from-char n [] i (λ j. pow_pos w) m
 
       -- a character that a call leaves where it is done
-      pub char_by : (c : Call) (i : ℕ) → (Done ≡ outcome w (length bs) len c → char_at w (buffer_after w bs (deed w len c)) i ≡ char_at w bs i)
+      pub char_by : (c : Call) (i : ℕ) → ((Ok tt) ≡ outcome w (length bs) len c → char_at w (buffer_after w bs (deed w len c)) i ≡ char_at w bs i)
           → char_at w (after w bs len c) i ≡ char_at w bs i
       unfolding after
       char_by c i h = by_outcome (λ o. char_at w (buffer_after w bs (if_done o (deed w len c) still)) i ≡ char_at w bs i) (outcome w (length bs) len c) h (λ r e. refl)
 
       -- a character below the old and the new length that no call which is done overwrites
-      pub char_kept : (c : Call) (i : ℕ) → i < len → i < (answered w (length bs) len c).values.2 → (Done ≡ outcome w (length bs) len c → Overwrites c i → ⊥)
+      pub char_kept : (c : Call) (i : ℕ) → i < len → i < (answered w (length bs) len c).values.2 → ((Ok tt) ≡ outcome w (length bs) len c → Overwrites c i → ⊥)
           → char_at w (after w bs len c) i ≡ char_at w bs i
       unfolding answered
       char_kept c i l m h = char_by c i (λ e. deed-char c i l (rw (sym e) at m) (h e))

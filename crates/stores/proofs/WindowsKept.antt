@@ -2,6 +2,7 @@
 -- that a call which is done overwrites, keeps its answer. After a clear that is accepted and any calls, every window's answer is that of the
 -- flags which the calls alone give.
 -- Assumes nothing.
+use Rattle.std.specs.Prelude.{Ok}
 use mathlib.Core.List.{List, []}
 use mathlib.Core.Path.{◌≡◌, sym, ap, ◌∙◌}
 use Prim.Native.Nat.{ℕ, ◌+◌, ◌≤◌, ◌<◌}
@@ -10,9 +11,8 @@ use native.Mathlib.Omega.{arith}
 use lib.ListN.{length, get_or, take, drop, length-drop}
 use lib.Seq.{ext_get_or, get_or-take, get_or-drop, length-take-le}
 use Rattle.codes.specs.Codes.{char_at}
-use Rattle.codes.specs.declared.refusals.Outcome.TheVariants.{Done}
 use Rattle.codes.proofs.CharLaws.{length-chars, get_or-chars}
-use Rattle.codes.proofs.WidthLaws.{width_1}
+use Rattle.codes.specs.Widths.{width_1}
 use Rattle.stores.specs.Changes.{Overwrites}
 use Rattle.stores.specs.History.{Store, step, run, history, flags_of}
 use Rattle.stores.specs.Stores.{Call, clear, outcome}
@@ -32,7 +32,7 @@ window_same f g p k a b h =
     get_or-take k (drop p f) i 0 j ∙ get_or-drop p f i 0 ∙ h (p + i) (omega arith) (omega arith) ∙ sym (get_or-take k (drop p g) i 0 j ∙ get_or-drop p g i 0)))
 
 pub windows_kept : (s : Store) (c : Call) (p k : ℕ) → 1 ≤ k → k ≤ 96 → p + k ≤ s.len → p + k ≤ (step 1 s c).len
-    → ((i : ℕ) → p ≤ i → i < p + k → Done ≡ outcome 1 (length s.bytes) s.len c → Overwrites c i → ⊥)
+    → ((i : ℕ) → p ≤ i → i < p + k → (Ok tt) ≡ outcome 1 (length s.bytes) s.len c → Overwrites c i → ⊥)
     → window (flags_of (step 1 s c)) p k ≡ window (flags_of s) p k
 windows_kept s c p k lo hi a b h =
     let t : Store = step 1 s c in
@@ -45,6 +45,6 @@ windows_kept s c p k lo hi a b h =
     ∙ char_kept width_1 s.bytes s.len c i (omega arith) (omega arith) (h i l j)
     ∙ sym (get_or-chars 1 s.bytes 0 s.len i (omega arith) ∙ ap (char_at 1 s.bytes) (zero-add i)))
 
-pub windows_right : (bs : List ℕ) (old : ℕ) → outcome 1 (length bs) 0 clear ≡ Done → (cs : List Call) (p k : ℕ) → 1 ≤ k → k ≤ 96
+pub windows_right : (bs : List ℕ) (old : ℕ) → outcome 1 (length bs) 0 clear ≡ Ok tt → (cs : List Call) (p k : ℕ) → 1 ≤ k → k ≤ 96
     → window (flags_of (run 1 (step 1 (record { bytes = bs; len = old }) clear) cs)) p k ≡ window (history 1 (length bs) [] cs) p k
 windows_right bs old e cs p k lo hi = ap (λ (f : List ℕ). window f p k) (Histories.history width_1 bs old e cs).chars-are

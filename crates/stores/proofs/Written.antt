@@ -2,6 +2,7 @@
 -- to ceil(end / C8) + 48 for a push, from m / C8 to ceil(m / C8) + 48 for a cut, the first 48 for a clear; the bytes of the
 -- characters for an overwrite, and of these only the overwritten characters.
 -- Assumes nothing.
+use Rattle.std.specs.Prelude.{Ok}
 use mathlib.Core.List.{List, [], ◌∷◌, map}
 use mathlib.Core.Path.{◌≡◌, refl, sym, ap, ◌∙◌, subst}
 use Prim.Native.Nat.{ℕ, ◌+◌, ◌*◌, ◌/◌, ◌≤◌, ◌<◌, zero-le}
@@ -11,7 +12,6 @@ use lib.ListN.{length, get_or, length-map, get_or-eq_default}
 use Rattle.codes.specs.Codes.{IsWidth, per, up, trailing, char_at, code}
 use Rattle.codes.specs.Refusals.{if_done}
 use Rattle.codes.specs.Words.{pack}
-use Rattle.codes.specs.declared.refusals.Outcome.TheVariants.{Done}
 use Rattle.codes.proofs.CharLaws.{get_or-pack, length-pack, pack-ext, pack-char_at}
 use Rattle.codes.proofs.WidthLaws.{below_or, up-hi, up_le}
 use Rattle.stores.specs.Changes.{run_start, run_end}
@@ -63,7 +63,7 @@ module _ {w : ℕ} (W : IsWidth w) (bs : List ℕ) (bytes : (b : ℕ) → get_or
   deed-out (cut n) j h = from_out n [] n j (add-zero n) h
 
   -- a byte that is not in the run of a call that is done
-  pub written : (c : Call) (j : ℕ) → (Done ≡ outcome w (length bs) len c → run_start w len c ≤ j → j < run_end w len c → ⊥) → get_or (after w bs len c) j 0 ≡ get_or bs j 0
+  pub written : (c : Call) (j : ℕ) → ((Ok tt) ≡ outcome w (length bs) len c → run_start w len c ≤ j → j < run_end w len c → ⊥) → get_or (after w bs len c) j 0 ≡ get_or bs j 0
   unfolding after
   written c j h =
       by_outcome (λ o. get_or (buffer_after w bs (if_done o (deed w len c) still)) j 0 ≡ get_or bs j 0) (outcome w (length bs) len c) (λ e. deed-out c j (h e)) (λ r e. refl)

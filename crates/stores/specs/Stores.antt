@@ -2,8 +2,7 @@
 -- Assumes nothing.
 use Rattle.std.specs.Prelude.{List, [], ◌∷◌, map, ℕ, ◌+◌, length}
 use Rattle.codes.specs.Codes.{up, trailing, code}
-use Rattle.codes.specs.Refusals.{Test, Answer, answer, first, if_done, too_long, bad_store, bad_view, bad_end, no_room}
-use Rattle.codes.specs.declared.refusals.Outcome.{Outcome}
+use Rattle.codes.specs.Refusals.{Test, Answer, answer, first, if_done, too_long, bad_store, bad_view, bad_end, no_room, Outcome}
 use Rattle.runs.specs.Runs.{seq_start, seq_chars, written, overwritten}
 
 -- the calls on a store, with what they are given

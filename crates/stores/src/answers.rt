@@ -2,16 +2,16 @@
 use codes::refusals::Refusal;
 use codes::units::Chars;
 
-// The start and the end of what was pushed, or the refusal and the store's old length.
+// The start and the end of what was pushed.
 #[derive(Clone, Copy)]
-pub enum Pushed {
-    Done { start: Chars, end: Chars },
-    Refused { refusal: Refusal, len: Chars },
+pub struct Pushed {
+    pub start: Chars,
+    pub end: Chars,
 }
 
-// The store's length.
+// Why a call left a store as it was, and the store's length, which stays.
 #[derive(Clone, Copy)]
-pub enum Kept {
-    Done { len: Chars },
-    Refused { refusal: Refusal, len: Chars },
+pub struct Unchanged {
+    pub refusal: Refusal,
+    pub len: Chars,
 }

@@ -1,7 +1,6 @@
-// Stores: a lent buffer and a length in characters; at width 2 in `bases`, at width 1 in `flags`.
+// Stores: a lent buffer and a length in characters, at the width of bases or of flags.
 #![tactic(auto)]
 
 pub mod answers;
-pub mod bases;
-pub mod flags;
+pub mod calls;
 pub mod inner;

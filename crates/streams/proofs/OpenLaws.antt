@@ -1,5 +1,6 @@
 -- What a step or a fill that is not refused has passed, and that the room of several buffers is that of the least.
 -- Assumes nothing.
+use Rattle.std.specs.Prelude.{Result, Ok, Err}
 use mathlib.Core.List.{List, [], ◌∷◌}
 use mathlib.Core.Path.{◌≡◌, sym, ap, ◌∙◌}
 use Prim.Native.Nat.{ℕ, ◌*◌, ◌≤◌, ◌<◌, min}
@@ -8,9 +9,8 @@ use lib.Dec.{ltb}
 use lib.ListN.{length}
 use borrow.Author.Tests.{lt-ltb, le-ltb, ltb-false, leb-false, lt-leb}
 use Rattle.codes.specs.Codes.{IsWidth}
-use Rattle.codes.specs.Refusals.{Test, first, no_room}
-use Rattle.codes.specs.declared.refusals.Outcome.TheVariants.{Done, Refused}
-use Rattle.codes.specs.declared.refusals.Outcome.{Outcome}
+use Rattle.codes.specs.Refusals.{Test, first, no_room, Outcome}
+use Rattle.codes.specs.declared.refusals.Refusal.{Refusal}
 use Rattle.codes.specs.declared.refusals.Refusal.TheVariants.{NoRoom}
 use Rattle.codes.proofs.RefusalLaws.{and_then, first_append, answer-outcome}
 use Rattle.codes.proofs.WidthLaws.{below_or}
@@ -31,7 +31,7 @@ abbrev pub Rooms : ℕ → List ℕ → Type 0
 Rooms n [] = Unit {0}
 Rooms n (m ∷ ms) = (n ≤ m) × Rooms n ms
 
-rooms : (n : ℕ) (ms : List ℕ) → first (room_tests n ms) ≡ Done → Rooms n ms
+rooms : (n : ℕ) (ms : List ℕ) → first (room_tests n ms) ≡ Ok tt → Rooms n ms
 rooms n [] e = tt
 rooms n (m ∷ ms) e =
     let p = passed (ltb m n) NoRoom (first (room_tests n ms)) e in
@@ -48,9 +48,9 @@ room_least n a b ts =
     (λ g. rw (le-ltb a n h, le-ltb b n g, le-ltb (min a b) n (le-min h g))))
 
 -- what an answer of filling says of its outcome
-abbrev pub outcome_of : Filled → Outcome
-outcome_of (Filled.Is s p) = Done
-outcome_of (Filled.Refused r) = Refused r
+abbrev pub outcome_of : Result Filled Refusal → Outcome
+outcome_of (Ok x) = Ok tt
+outcome_of (Err r) = Err r
 
 module _ (w : ℕ) (bs : List ℕ) (o len c f d e : ℕ) where
   abbrev tests : List Test
@@ -60,20 +60,20 @@ module _ (w : ℕ) (bs : List ℕ) (o len c f d e : ℕ) where
   n = steps w len c f
 
   -- a step that is not refused
-  pub step_open : (j : ℕ) → step_outcome w bs o len c f d e j ≡ Done → Open w bs o len c f d e × (j < n)
+  pub step_open : (j : ℕ) → step_outcome w bs o len c f d e j ≡ Ok tt → Open w bs o len c f d e × (j < n)
   unfolding step_outcome
   step_open j h =
       let a = first_both tests (bad_step n j ∷ []) h in
       (stream_open w bs o len c f d e a.0, leb-false n j (first_none (bad_step n j ∷ []) a.1).0)
 
-  pub step_plain : (j : ℕ) → step_outcome w bs o len c f d e j ≡ Done → step_outcome w bs o len c f 0 0 j ≡ Done
+  pub step_plain : (j : ℕ) → step_outcome w bs o len c f d e j ≡ Ok tt → step_outcome w bs o len c f 0 0 j ≡ Ok tt
   unfolding step_outcome
   step_plain j h =
       let a = step_open j h in
       sym (first_behind (stream_tests w bs o len c f 0 0) (bad_step n j ∷ []) (stream_plain w bs o len c f d e a.0) 1 (lt-leb n j a.1, tt))
 
   -- a fill that is not refused
-  pub fill_open : (ms : List ℕ) → fill_outcome w bs o len c f d e ms ≡ Done → Open w bs o len c f d e × Rooms (8 * n) ms
+  pub fill_open : (ms : List ℕ) → fill_outcome w bs o len c f d e ms ≡ Ok tt → Open w bs o len c f d e × Rooms (8 * n) ms
   unfolding fill_outcome
   fill_open ms h =
       let a = first_both tests (room_tests (8 * n) ms) h in
@@ -86,7 +86,7 @@ module _ (w : ℕ) (bs : List ℕ) (o len c f d e : ℕ) where
       ∙ ap (and_then (first tests)) (room_least (8 * n) a b (room_tests (8 * n) ms))
       ∙ sym (first_append tests (room_tests (8 * n) (a ∷ b ∷ ms)))
 
-  pub filled-outcome : (r : Filled) (ms : List ℕ) → filled_says r ≡ fill_answer w bs o len c f d e ms → outcome_of r ≡ fill_outcome w bs o len c f d e ms
+  pub filled-outcome : (r : Result Filled Refusal) (ms : List ℕ) → filled_says r ≡ fill_answer w bs o len c f d e ms → outcome_of r ≡ fill_outcome w bs o len c f d e ms
   unfolding fill_answer
-  filled-outcome (Filled.Is s p) ms h = answer-outcome Done (fill_outcome w bs o len c f d e ms) (s, p.0) (n, padding w len c f) (0, 0) (0, 0) h
-  filled-outcome (Filled.Refused r) ms h = answer-outcome (Refused r) (fill_outcome w bs o len c f d e ms) (0, 0) (n, padding w len c f) (0, 0) (0, 0) h
+  filled-outcome (Ok x) ms h = answer-outcome (Ok tt) (fill_outcome w bs o len c f d e ms) (x.steps, x.padding.0) (n, padding w len c f) (0, 0) (0, 0) h
+  filled-outcome (Err r) ms h = answer-outcome (Err r) (fill_outcome w bs o len c f d e ms) (0, 0) (n, padding w len c f) (0, 0) (0, 0) h

@@ -1,5 +1,6 @@
 -- Stepping and filling agree: what a step answers is what filling writes at its eight entries, with any delay.
 -- Assumes nothing.
+use Rattle.std.specs.Prelude.{Ok}
 use mathlib.Core.List.{List, [], ◌∷◌, ◌++◌}
 use mathlib.Core.Path.{◌≡◌, sym, ap, ap₂, ◌∙◌, subst}
 use Prim.Native.Nat.{ℕ, ◌+◌, ◌*◌, ◌/◌, ◌%◌, ◌<◌}
@@ -8,9 +9,7 @@ use lib.ListN.{take, drop, replicate, length-append, length-drop, get_or-append}
 use lib.Seq.{ext_get_or, get_or-take, get_or-drop, length-take-le}
 use borrow.Author.Tests.{lt-leb}
 use Rattle.codes.specs.Codes.{tab, chars}
-use Rattle.codes.specs.Refusals.{Test, if_done}
-use Rattle.codes.specs.declared.refusals.Outcome.{Outcome}
-use Rattle.codes.specs.declared.refusals.Outcome.TheVariants.{Done}
+use Rattle.codes.specs.Refusals.{Test, if_done, Outcome}
 use Rattle.codes.proofs.TabLaws.{length-tab, get_or-tab, tab-ext}
 use Rattle.codes.proofs.OutcomeLaws.{first_both}
 use Rattle.codes.proofs.TestLaws.{first_behind}
@@ -38,8 +37,8 @@ pub at_lane : (i l : ℕ) → l < 8 → (8 * i + l) % 8 ≡ l
 at_lane i l h = omega arith
 
 -- a step of a stream that filling accepts is not refused, and gives its eight entries, for the plain stream and any delay g
-module _ (w : ℕ) (bs : List ℕ) (o len c f d e : ℕ) (ms : List ℕ) (done : fill_outcome w bs o len c f d e ms ≡ Done) (j : ℕ) (h : j < steps w len c f) where
-  pub step_accepted : step_outcome w bs o len c f d e j ≡ Done
+module _ (w : ℕ) (bs : List ℕ) (o len c f d e : ℕ) (ms : List ℕ) (done : fill_outcome w bs o len c f d e ms ≡ Ok tt) (j : ℕ) (h : j < steps w len c f) where
+  pub step_accepted : step_outcome w bs o len c f d e j ≡ Ok tt
   unfolding step_outcome fill_outcome
   step_accepted =
       let ts : List Test = stream_tests w bs o len c f d e in

@@ -2,8 +2,7 @@
 -- Assumes nothing.
 use Rattle.std.specs.Prelude.{List, [], ◌∷◌, ◌++◌, ℕ, ◌*◌, leb, replicate}
 use Rattle.codes.specs.Codes.{chars}
-use Rattle.codes.specs.Refusals.{Test, Answer, answer, first, if_done, no_room}
-use Rattle.codes.specs.declared.refusals.Outcome.{Outcome}
+use Rattle.codes.specs.Refusals.{Test, Answer, answer, first, if_done, no_room, Outcome}
 use Rattle.codes.specs.declared.refusals.Refusal.TheVariants.{BadStream}
 use Rattle.lanes.specs.Lanes.{lane, padding, steps, bad_shape, lanes, filled, stream_tests}
 

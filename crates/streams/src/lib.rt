@@ -1,7 +1,6 @@
-// Lane streams: eight lanes over a view, with none, one or two delays; at width 2 in `bases`, at width 1 in `flags`.
+// Lane streams: eight lanes over a view, with none, one or two delays.
 #![tactic(auto)]
 
 pub mod answers;
-pub mod bases;
-pub mod flags;
+pub mod calls;
 pub mod inner;

@@ -82,16 +82,16 @@ pub inside-none : (size : ℕ) (f : ℕ → Run) (n : ℕ) → true ≡ all_insi
 unfolding all_inside
 inside-none size f n = rw (blocks-none f n)
 
-module _ (size : ℕ) (f : ℕ → Run) (i n : ℕ) (h : 0 < i) (l : i ≤ n) where
+module _ (size : ℕ) (f : ℕ → Run) (i n : ℕ) (l : i < n) where
   -- a block that ends outside
-  pub inside-out : size < end (f (i - 1)) → false ≡ all_inside size (blocks_from f (i - 1) (n - (i - 1)))
+  pub inside-out : size < end (f i) → all_inside size (blocks_from f i (n - i)) ≡ false
   unfolding all_inside
-  inside-out k = rw (blocks-down f i n h l, lt-leb (end (f (i - 1))) size k)
+  inside-out k = rw (blocks-before f i n l, lt-leb (end (f i)) size k)
 
   -- a block that does not
-  pub inside-in : (x : Bool) → end (f (i - 1)) ≤ size → x ≡ all_inside size (blocks_from f i (n - i)) → x ≡ all_inside size (blocks_from f (i - 1) (n - (i - 1)))
+  pub inside-in : end (f i) ≤ size → all_inside size (blocks_from f i (n - i)) ≡ all_inside size (blocks_from f (i + 1) (n - (i + 1)))
   unfolding all_inside
-  inside-in x k e = rw (blocks-down f i n h l, le-leb (end (f (i - 1))) size k) e
+  inside-in k = rw (blocks-before f i n l, le-leb (end (f i)) size k)
 
 -- ---- apart
 
@@ -106,16 +106,15 @@ module _ (a : Run) (f : ℕ → Run) where
   unfolding clear_of
   clear_none n = rw (blocks-none f n)
 
-  module _ (i n : ℕ) (h : 0 < i) (l : i ≤ n) where
-    -- one more block, which shares a position
-    pub clear-hit : max a.start (f (i - 1)).start < min (end a) (end (f (i - 1))) → false ≡ clear_of a (blocks_from f (i - 1) (n - (i - 1)))
+  module _ (i n : ℕ) (l : i < n) where
+    -- a block that shares a position
+    pub clear-hit : max a.start (f i).start < min (end a) (end (f i)) → clear_of a (blocks_from f i (n - i)) ≡ false
     unfolding clear_of
-    clear-hit k = rw (blocks-down f i n h l, lt-ltb (max a.start (f (i - 1)).start) (min (end a) (end (f (i - 1)))) k)
+    clear-hit k = rw (blocks-before f i n l, lt-ltb (max a.start (f i).start) (min (end a) (end (f i))) k)
 
-    -- one more block, which does not
-    pub clear-miss : (x : Bool) → min (end a) (end (f (i - 1))) ≤ max a.start (f (i - 1)).start → x ≡ clear_of a (blocks_from f i (n - i))
-        → x ≡ clear_of a (blocks_from f (i - 1) (n - (i - 1)))
-    clear-miss x k e = rw (blocks-down f i n h l) (e ∙ sym (clear-skip a (f (i - 1)) (blocks_from f i (n - i)) k))
+    -- a block that does not
+    pub clear-miss : min (end a) (end (f i)) ≤ max a.start (f i).start → clear_of a (blocks_from f i (n - i)) ≡ clear_of a (blocks_from f (i + 1) (n - (i + 1)))
+    clear-miss k = rw (blocks-before f i n l) (clear-skip a (f i) (blocks_from f (i + 1) (n - (i + 1))) k)
 
 -- a block without a position shares none
 pub clear-empty : (a : Run) (bs : List Run) → a.size ≡ 0 → clear_of a bs ≡ true

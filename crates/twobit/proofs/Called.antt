@@ -1,8 +1,9 @@
 -- What satisfies a call's contract, as the checker reads it from the source, answers and leaves what the definitions say.
 -- Assumes nothing.
 use mathlib.Core.Path.{◌≡◌}
+use Rattle.codes.specs.Answers.{says}
 use Rattle.codes.proofs.Permitted.{Called}
-use Rattle.twobit.specs.Answers.{sized_says, cursor_says, entry_says, info_says, read_says}
+use Rattle.twobit.specs.Answers.{cursor_says, entry_says, info_says, read_says}
 use Rattle.twobit.specs.Files.{offset_size}
 use Rattle.twobit.specs.Reading.{check_answer, first_answer, entry_answer, info_answer, record_answer, bases_after, flags_after}
 use Rattle.twobit.proofs.reading.check.Kinds as check·kinds
@@ -16,7 +17,7 @@ use Rattle.twobit.proofs.reading.record_info.Reads as record-info
 use Rattle.twobit.proofs.reading.record.Kinds as record·kinds
 use Rattle.twobit.proofs.reading.record.Reads as record·reads
 
-pub check_called : Called 1 check·kinds.ps check·kinds.r check.Post (λ κs a x s. sized_says x ≡ check_answer a.0.now)
+pub check_called : Called 1 check·kinds.ps check·kinds.r check.Post (λ κs a x s. says x ≡ check_answer a.0.now)
 check_called κs a x s p = p
 
 pub first_called : Called 1 first·kinds.ps first·kinds.r first.Post (λ κs a x s. cursor_says x ≡ first_answer a.0.now)

@@ -1,8 +1,8 @@
 -- The header and an entry of the index: what is found of them, and what that tells.
 -- Assumes nothing.
+use Rattle.std.specs.Prelude.{Option, Some, None}
 use mathlib.Core.Bool.{Bool, true, false, ◌&&◌, ◌||◌}
 use mathlib.Core.List.{List}
-use mathlib.Core.Option.{Option, some, none}
 use mathlib.Core.Path.{◌≡◌, refl, sym, ap, ap₂, ◌∙◌}
 use Prim.Native.Nat.{ℕ, zero, suc, ◌+◌, ◌-◌, ◌≤◌, ◌<◌}
 use native.Mathlib.Numerals.{add-one}
@@ -20,27 +20,27 @@ use Rattle.twobit.proofs.PickLaws.{and_false, and_and, found_none, found_some, f
 module _ (file : List ℕ) where
   -- the header, where it is a right one
   abbrev pub header_found : Option (Bool × ℕ)
-  header_found = pick (good_header file) (some (is_big file, sequences file)) none
+  header_found = pick (good_header file) (Some (is_big file, sequences file)) None
 
   -- what follows the size's test
   abbrev rest : Bool
   rest = (signed false file || signed true file) && eqb (number_at (is_big file) 4 file 4) 0
 
-  header_none : good_header file ≡ false → none ≡ header_found
+  header_none : good_header file ≡ false → None ≡ header_found
   header_none e = found_none (good_header file) (is_big file, sequences file) e
 
   -- too few bytes; no signature; another version
-  pub header_short : length file < 16 → none ≡ header_found
+  pub header_short : length file < 16 → None ≡ header_found
   unfolding good_header
   header_short h = header_none (ap (λ (t : Bool). t && rest) (lt-leb 16 (length file) h))
 
-  pub header_unsigned : signed false file ≡ false → signed true file ≡ false → none ≡ header_found
+  pub header_unsigned : signed false file ≡ false → signed true file ≡ false → None ≡ header_found
   unfolding good_header
   header_unsigned e f =
       header_none
       (ap (λ (t : Bool). leb 16 (length file) && (t && eqb (number_at (is_big file) 4 file 4) 0)) (ap₂ (λ (s t : Bool). s || t) e f) ∙ and_false (leb 16 (length file)))
 
-  pub header_other : eqb (number_at (is_big file) 4 file 4) 0 ≡ false → none ≡ header_found
+  pub header_other : eqb (number_at (is_big file) 4 file 4) 0 ≡ false → None ≡ header_found
   unfolding good_header
   header_other e =
       header_none
@@ -50,7 +50,7 @@ module _ (file : List ℕ) where
 
   -- a right header
   pub header_good : (big : Bool) (n : ℕ) → 16 ≤ length file → (signed false file || signed true file) ≡ true → eqb (number_at (is_big file) 4 file 4) 0 ≡ true → big ≡ is_big file
-      → n ≡ number_at (is_big file) 4 file 8 → some (big, n) ≡ header_found
+      → n ≡ number_at (is_big file) 4 file 8 → Some (big, n) ≡ header_found
   unfolding good_header sequences
   header_good big n h s v b e =
       found_some (good_header file) (is_big file, sequences file) (big, n)
@@ -64,10 +64,10 @@ module _ (file : List ℕ) where
     pub count : n ≡ sequences file
 
   -- no right one
-  pub header_bad : header_found ≡ none → good_header file ≡ false
+  pub header_bad : header_found ≡ None → good_header file ≡ false
   header_bad e = none_test (good_header file) (is_big file, sequences file) e
 
-  pub header_some : (big : Bool) (n : ℕ) → header_found ≡ some (big, n) → Headed big n
+  pub header_some : (big : Bool) (n : ℕ) → header_found ≡ Some (big, n) → Headed big n
   header_some big n e =
       let v : ◌≡◌ {A = Bool × ℕ} (big, n) (is_big file, sequences file) = some_value (good_header file) (is_big file, sequences file) (big, n) e in
       record {
@@ -78,11 +78,11 @@ module _ (file : List ℕ) where
 
 module _ (big : Bool) (k : ℕ) (file : List ℕ) (at : ℕ) where
   -- an entry that is cut, and a whole one
-  pub entry_cut : length file < entry_end big file k at → none ≡ entry_found big k file at
+  pub entry_cut : length file < entry_end big file k at → None ≡ entry_found big k file at
   entry_cut h = found-cut (entry_end big file k at) (length file) (name_size big file at, (offset_at big file k at, entry_end big file k at)) h
 
   pub entry_whole : (o : ℕ) → entry_end big file k at ≤ length file → o ≡ number_at big k file (at + 1 + name_size big file at)
-      → some (name_size big file at, (o, at + 1 + name_size big file at + k)) ≡ entry_found big k file at
+      → Some (name_size big file at, (o, at + 1 + name_size big file at + k)) ≡ entry_found big k file at
   unfolding offset_at
   entry_whole o h e =
       found-whole (entry_end big file k at) (length file) (name_size big file at, (offset_at big file k at, entry_end big file k at))
@@ -97,12 +97,12 @@ module _ (big : Bool) (k : ℕ) (file : List ℕ) (at : ℕ) where
     pub within : entry_end big file k at ≤ length file
 
   -- none was found
-  pub entry_none : entry_found big k file at ≡ none → length file < entry_end big file k at
+  pub entry_none : entry_found big k file at ≡ None → length file < entry_end big file k at
   entry_none e =
       leb-false (entry_end big file k at) (length file)
       (none_test (leb (entry_end big file k at) (length file)) (name_size big file at, (offset_at big file k at, entry_end big file k at)) e)
 
-  pub entry_some : (size offset end : ℕ) → entry_found big k file at ≡ some (size, (offset, end)) → Noted size offset end
+  pub entry_some : (size offset end : ℕ) → entry_found big k file at ≡ Some (size, (offset, end)) → Noted size offset end
   entry_some size offset end e =
       let t = leb (entry_end big file k at) (length file) in
       let x : ℕ × (ℕ × ℕ) = (name_size big file at, (offset_at big file k at, entry_end big file k at)) in
@@ -122,18 +122,18 @@ module _ (big : Bool) (k : ℕ) (file : List ℕ) (at : ℕ) where
   abbrev sound_record : Bool
   sound_record = is_record big file (offset_at big file k at)
 
-  sound_none : (in_file && sound_record) ≡ false → none ≡ entry_sound big k file at
+  sound_none : (in_file && sound_record) ≡ false → None ≡ entry_sound big k file at
   sound_none e = found_none (in_file && sound_record) (entry_end big file k at, offset_at big file k at) e
 
   -- the entry is cut; its record is bad; both are sound
-  pub sound_cut : entry_found big k file at ≡ none → none ≡ entry_sound big k file at
+  pub sound_cut : entry_found big k file at ≡ None → None ≡ entry_sound big k file at
   sound_cut e = sound_none (ap (λ (t : Bool). t && sound_record) (lt-leb (entry_end big file k at) (length file) (entry_none e)))
 
   module _ (size offset end : ℕ) (h : Noted size offset end) where
-    pub sound_bad : is_record big file offset ≡ false → none ≡ entry_sound big k file at
+    pub sound_bad : is_record big file offset ≡ false → None ≡ entry_sound big k file at
     sound_bad e = sound_none (ap (λ (t : Bool). in_file && t) (ap (is_record big file) (sym h.placed) ∙ e) ∙ and_false in_file)
 
-    pub sound_good : is_record big file offset ≡ true → some (end, offset) ≡ entry_sound big k file at
+    pub sound_good : is_record big file offset ≡ true → Some (end, offset) ≡ entry_sound big k file at
     sound_good e =
         found_some (in_file && sound_record) (entry_end big file k at, offset_at big file k at) (end, offset)
         (ap₂ (λ (s t : Bool). s && t) (le-leb (entry_end big file k at) (length file) h.within) (ap (is_record big file) (sym h.placed) ∙ e))
@@ -151,13 +151,13 @@ module _ (big : Bool) (k : ℕ) (file : List ℕ) (at : ℕ) where
   unfolding are_entries
   entries_none = refl
 
-  pub entries_bad : (n : ℕ) → 0 < n → entry_sound big k file at ≡ none → are_entries big file k n at ≡ false
+  pub entries_bad : (n : ℕ) → 0 < n → entry_sound big k file at ≡ None → are_entries big file k n at ≡ false
   entries_bad zero l e = absurd (omega arith)
   entries_bad (suc n) l e =
       entries_first n
       ∙ ap (λ (t : Bool). t && are_entries big file k n (entry_end big file k at)) (none_test (in_file && sound_record) (entry_end big file k at, offset_at big file k at) e)
 
-  module _ (end offset : ℕ) (e : entry_sound big k file at ≡ some (end, offset)) where
+  module _ (end offset : ℕ) (e : entry_sound big k file at ≡ Some (end, offset)) where
     abbrev found : ℕ × ℕ
     found = (entry_end big file k at, offset_at big file k at)
 

@@ -15,7 +15,8 @@ use Rattle.codes.specs.Words.{word, pack, packed}
 use Rattle.codes.proofs.CharLaws.{char_at-at, byte_char_at, length-pack, char_at-pack}
 use Rattle.codes.proofs.MadeLaws.{made-is}
 use Rattle.codes.proofs.TabLaws.{length-tab, get_or-tab, tab-ext, tab-append, Below-tab, Below-get_or}
-use Rattle.codes.proofs.WidthLaws.{width_1, per_pos, up-hi, up_above, below_or}
+use Rattle.codes.specs.Widths.{width_1}
+use Rattle.codes.proofs.WidthLaws.{per_pos, up-hi, up_above, below_or}
 use Rattle.codes.proofs.RefusalLaws.{both}
 use Rattle.dna.specs.Dna.{base_at, bases_at}
 use Rattle.dna.specs.Flags.{Marked}

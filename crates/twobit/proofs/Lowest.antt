@@ -2,6 +2,7 @@
 -- its numbers, which do not descend. In `entry` the header comes first, since without it no number of sequences is known; behind a good
 -- one its tests are such a list.
 -- Assumes nothing.
+use Rattle.std.specs.Prelude.{Err}
 use mathlib.Core.Bool.{Bool, true, false, not}
 use mathlib.Core.List.{List, [], ◌∷◌}
 use mathlib.Core.Path.{◌≡◌, refl, sym, ap, subst}
@@ -9,9 +10,7 @@ use Prim.Native.Nat.{ℕ}
 use lib.Dec.{leb, ltb}
 use lib.ListN.{length}
 use Rattle.codes.specs.Codes.{pick}
-use Rattle.codes.specs.Refusals.{Test, first, number_of}
-use Rattle.codes.specs.declared.refusals.Outcome.{Outcome}
-use Rattle.codes.specs.declared.refusals.Outcome.TheVariants.{Refused}
+use Rattle.codes.specs.Refusals.{Test, first, number_of, Outcome}
 use Rattle.codes.specs.declared.refusals.Refusal.TheVariants.{BadForm}
 use Rattle.codes.proofs.Lowest.{Lowest, first_lowest}
 use Rattle.twobit.specs.Reading.{good_header, is_big, is_two_bit, bad_form, past_last, entry_end, offset_at, bad_record, info_outcome, record_tests, record_outcome}
@@ -31,14 +30,14 @@ module _ (k : ℕ) (file : List ℕ) (number at : ℕ) where
   behind =
       past_last file number ∷ bad_form (leb (entry_end (is_big file) file k at) (length file)) ∷ bad_form (ltb (offset_at (is_big file) file k at) (length file)) ∷ []
 
-  by_header : {b : Bool} → good_header file ≡ b → entry_outcome k file number at ≡ pick (not b) (Refused BadForm) (first behind)
+  by_header : {b : Bool} → good_header file ≡ b → entry_outcome k file number at ≡ pick (not b) (Err BadForm) (first behind)
   unfolding entry_outcome
-  by_header e = ap (λ (b : Bool). pick (not b) (Refused BadForm) (first behind)) e
+  by_header e = ap (λ (b : Bool). pick (not b) (Err BadForm) (first behind)) e
 
   pub entry_lowest : good_header file ≡ true → Lowest (number_of (entry_outcome k file number at)) behind
   entry_lowest e = subst (λ (o : Outcome). Lowest (number_of o) behind) (sym (by_header e)) (first_lowest behind refl)
 
-  pub entry_header : good_header file ≡ false → entry_outcome k file number at ≡ Refused BadForm
+  pub entry_header : good_header file ≡ false → entry_outcome k file number at ≡ Err BadForm
   entry_header e = by_header e
 
 pub record_info_lowest : (file : List ℕ) (r : ℕ) → Lowest (number_of (info_outcome file r)) (bad_record file r ∷ [])

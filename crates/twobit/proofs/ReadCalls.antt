@@ -1,6 +1,7 @@
 -- What the calls answer on a file of sequences, in either byte order, and what they leave in the two lent buffers: of whatever satisfies
 -- their contracts. The sequence that is looked at stands behind some others and before some others.
 -- Assumes nothing.
+use Rattle.std.specs.Prelude.{Ok}
 use mathlib.Core.Bool.{Bool, true, false}
 use mathlib.Core.List.{List, [], ◌∷◌, ◌++◌, append_assoc}
 use mathlib.Core.Path.{◌≡◌, sym, ap, ap₂, ◌∙◌, subst}
@@ -14,13 +15,13 @@ use lib.Seq.{take_at, drop_at, drop-drop}
 use Rattle.codes.specs.Codes.{IsWidth, per, up, trailing, pick, char_at, chars}
 use Rattle.codes.specs.Refusals.{answer}
 use Rattle.codes.specs.Words.{packed}
-use Rattle.codes.specs.declared.refusals.Outcome.TheVariants.{Done}
 use Rattle.codes.proofs.CharLaws.{chars-ext, unpacked}
 use Rattle.codes.proofs.Permitted.{Called}
 use Rattle.codes.proofs.OutcomeLaws.{answer_done, gives_done}
 use Rattle.codes.proofs.RefusalLaws.{says-once}
 use Rattle.codes.proofs.TabLaws.{Below-tab, Below-get_or, length-tab}
-use Rattle.codes.proofs.WidthLaws.{width_1, width_2, per_pos, up-hi}
+use Rattle.codes.specs.Widths.{width_1, width_2}
+use Rattle.codes.proofs.WidthLaws.{per_pos, up-hi}
 use Rattle.codes.proofs.WordLaws.{Below}
 use Rattle.fields.specs.Runs.{runs}
 use Rattle.forms.specs.Reading.{filled_with}
@@ -28,14 +29,10 @@ use Rattle.forms.proofs.TrackLaws.{length-packed}
 use Rattle.twobit.specs.Files.{Sequence, header_size, offset_size, entry_size, entry_of, record_of, record_size, index_of, records_of, names_size, index_end, file_of}
 use Rattle.twobit.specs.Reading.{is_big, good_header, sequences, block_count, size_at, masks_place, is_record, offset_at, entry_end, no_entry, no_info}
 use Rattle.twobit.specs.Reading.{check_answer, first_answer, entry_outcome, entry_answer, info_outcome, info_answer, record_outcome, record_answer, bases_after, flags_after}
-use Rattle.twobit.specs.declared.answers.Sized.TheVariants as Sized
-use Rattle.twobit.specs.declared.answers.Cursor.TheVariants as Cursor
-use Rattle.twobit.specs.declared.answers.Entry.TheVariants as Entry
-use Rattle.twobit.specs.declared.answers.Info.TheVariants as Info
-use Rattle.twobit.specs.declared.answers.Read.TheVariants as Read
 use Rattle.twobit.proofs.BackLaws.{size_back, count_back, masks_back, sound_back, record_flags, record_bases, name-size, name_back, offset-back, entry_end_lem, entry_within}
 use Rattle.twobit.proofs.BaseLaws.{under_three}
-use Rattle.twobit.proofs.Decided.{sized_told, cursor_told, entry_told, info_told, read_told}
+use Rattle.codes.proofs.AnswerLaws.{told}
+use Rattle.twobit.proofs.Decided.{cursor_told, entry_told, info_told, read_told}
 use Rattle.twobit.proofs.FileLaws.{length-index, records_size, Even, length-records, names_append, records_append, index_append}
 use Rattle.twobit.proofs.PlaceLaws.{behind}
 use Rattle.twobit.proofs.ReadBack.{Fit, AllFit, Near, accepted, counted, ordered-as, header_good, at_index, at_records}
@@ -121,7 +118,7 @@ module _ (big : Bool) (file : List ℕ) (order : is_big file ≡ big) (good : go
     end_is : entry_end (is_big file) file offset_size at ≡ at + entry_size offset_size (length name)
     end_is = entry_end_lem big file offset_size at name off rest d
 
-    entry_outcome_lem : i < sequences file → off < length file → entry_outcome offset_size file i at ≡ Done
+    entry_outcome_lem : i < sequences file → off < length file → entry_outcome offset_size file i at ≡ Ok tt
     unfolding entry_outcome
     entry_outcome_lem h m =
         let within : entry_end (is_big file) file offset_size at ≤ length file = entry_within big file offset_size at name off rest d in
@@ -129,7 +126,7 @@ module _ (big : Bool) (file : List ℕ) (order : is_big file ≡ big) (good : go
         simp (good, lt-leb (sequences file) i h, le-leb _ _ within, lt-ltb _ _ there)
 
     entry_is : i < sequences file → off < length file
-        → entry_answer offset_size file i at ≡ answer Done ((suc at, length name), (off, (suc i, at + entry_size offset_size (length name)))) no_entry
+        → entry_answer offset_size file i at ≡ answer (Ok tt) ((suc at, length name), (off, (suc i, at + entry_size offset_size (length name)))) no_entry
     unfolding entry_answer
     entry_is h m =
         sym
@@ -146,24 +143,24 @@ module _ (big : Bool) (file : List ℕ) (order : is_big file ≡ big) (good : go
     sound : is_record (is_big file) file r ≡ true
     sound = rw order (sound_back big file r cs fs rest equal few e)
 
-    info_is : info_answer file r ≡ answer Done (length fs, (length (runs fs), 0)) no_info
+    info_is : info_answer file r ≡ answer (Ok tt) (length fs, (length (runs fs), 0)) no_info
     unfolding info_answer info_outcome
     info_is =
-        let done : info_outcome file r ≡ Done = simp (good, sound) in
+        let done : info_outcome file r ≡ Ok tt = simp (good, sound) in
         let blocks : block_count (is_big file) file (r + 4) ≡ length (runs fs) = rw order (count_back big file r cs fs rest equal few e) in
         sym (answer_done (info_outcome file r) (length fs, (length (runs fs), 0)) _ no_info done (λ t. (sym long t, (sym blocks t, sym unmasked t))))
 
     module _ (bases flags : List ℕ) where
       record_outcome_lem : length bases ≤ 2 ^ 28 → length flags ≤ 2 ^ 28 → up 2 (length fs) + trailing ≤ length bases → up 1 (length fs) + trailing ≤ length flags
-          → record_outcome file r bases flags ≡ Done
+          → record_outcome file r bases flags ≡ Ok tt
       unfolding record_outcome
       record_outcome_lem a b c d =
           let m : up 2 (size_at (is_big file) file r) + trailing ≤ length bases = rw long c in
           let n : up 1 (size_at (is_big file) file r) + trailing ≤ length flags = rw long d in
           simp (le-ltb _ _ a, le-ltb _ _ b, good, sound, le-ltb _ _ m, le-ltb _ _ n)
 
-      module _ (done : record_outcome file r bases flags ≡ Done) where
-        record_is : record_answer file r bases flags ≡ answer Done (length fs, 0) (0, 0)
+      module _ (done : record_outcome file r bases flags ≡ Ok tt) where
+        record_is : record_answer file r bases flags ≡ answer (Ok tt) (length fs, 0) (0, 0)
         unfolding record_answer
         record_is =
             sym
@@ -214,26 +211,26 @@ pub record OneRead (file : List ℕ) (ss pre : List Sequence) (s : Sequence) : T
   -- at its cursor: its name's place and size, its record's offset, and the next cursor
   pub entry : Called 1 entry·kinds.ps entry·kinds.r entry.Post
       (λ κs a x e. a.0.now ≡ file → a.1.0 ≡ length pre → a.1.1.0 ≡ entry_place pre
-      → x ≡ Entry.Is (suc (entry_place pre)) (length s.name) (record_place ss pre) (suc (length pre)) (entry_place (pre ++ s ∷ [])))
+      → x ≡ Ok (record { name = suc (entry_place pre); size = length s.name; offset = record_place ss pre; number = suc (length pre); at = entry_place (pre ++ s ∷ []) }))
   -- its name stands there
   pub name : take (length s.name) (drop (suc (entry_place pre)) file) ≡ s.name
   -- at its record's offset: how long it is, how many runs of flags, no mask blocks
   pub info : Called 1 record-info·kinds.ps record-info·kinds.r record-info.Post
-      (λ κs a x e. a.0.now ≡ file → a.1.0 ≡ record_place ss pre → x ≡ Info.Is (record { 0 = length s.flags }) (length (runs s.flags)) 0)
+      (λ κs a x e. a.0.now ≡ file → a.1.0 ≡ record_place ss pre → x ≡ Ok (record { len = record { 0 = length s.flags }; blocks = length (runs s.flags); masks = 0 }))
   -- and into buffers that have room: the length, no mask blocks, and the two stores
   pub sequence : Called 3 record·kinds.ps record·kinds.r record·reads.Post
       (λ κs a x e. let bases = a.1.1.0.now in
       let flags = a.1.1.1.0.now in
       a.0.now ≡ file → a.1.0 ≡ record_place ss pre → length bases ≤ 2 ^ 28 → length flags ≤ 2 ^ 28
       → up 2 (length s.flags) + trailing ≤ length bases → up 1 (length s.flags) + trailing ≤ length flags
-      → (x ≡ Read.Is (record { 0 = length s.flags }) 0)
+      → (x ≡ Ok (record { len = record { 0 = length s.flags }; masks = 0 }))
       × (Holds 2 (length s.flags) (under_three s.bases s.flags) bases e.1.1.0.now × Holds 1 (length s.flags) s.flags flags e.1.1.1.0.now))
 
 pub record AllRead (file : List ℕ) (ss : List Sequence) : Type 0 where
   -- it is judged sound, and its sequences are counted
-  pub check : Called 1 check·kinds.ps check·kinds.r check.Post (λ κs a x e. a.0.now ≡ file → x ≡ Sized.Is (length ss))
+  pub check : Called 1 check·kinds.ps check·kinds.r check.Post (λ κs a x e. a.0.now ≡ file → x ≡ Ok (length ss))
   -- the first cursor
-  pub first : Called 1 first·kinds.ps first·kinds.r first.Post (λ κs a x e. a.0.now ≡ file → x ≡ Cursor.Is 0 (entry_place []))
+  pub first : Called 1 first·kinds.ps first·kinds.r first.Post (λ κs a x e. a.0.now ≡ file → x ≡ Ok (record { number = 0; at = entry_place [] }))
   pub each : (pre : List Sequence) (s : Sequence) (post : List Sequence) → ss ≡ pre ++ s ∷ post → OneRead file ss pre s
 
 module _ (big : Bool) (pre : List Sequence) (s : Sequence) (post : List Sequence) where
@@ -299,24 +296,24 @@ module _ (big : Bool) (pre : List Sequence) (s : Sequence) (post : List Sequence
         record {
           entry =
               λ κs a x e p f i c.
-              says-once entry_told x (Entry.Is (suc (entry_place pre)) (length s.name) (record_place ss pre) (suc (length pre)) (entry_place (pre ++ s ∷ [])))
+              says-once entry_told x (Ok (record { name = suc (entry_place pre); size = length s.name; offset = record_place ss pre; number = suc (length pre); at = entry_place (pre ++ s ∷ []) }))
               (p
               ∙ (λ t. entry_answer offset_size (f t) (i t) (c t))
               ∙ entry_is big file order good (entry_place pre) off (length pre) s.name more (near_at offset_size (entry_place ss) pre s post near) at_entry numbered inside
-              ∙ ap (λ (n : ℕ). answer Done ((suc (entry_place pre), length s.name), (off, (suc (length pre), n))) no_entry) next);
+              ∙ ap (λ (n : ℕ). answer (Ok tt) ((suc (entry_place pre), length s.name), (off, (suc (length pre), n))) no_entry) next);
           name =
               ap (λ (n : ℕ). take n (drop (suc (entry_place pre)) file)) (sym (name-size big file offset_size (entry_place pre) s.name off more at_entry))
               ∙ name_back big file offset_size (entry_place pre) s.name off more at_entry;
           info =
               λ κs a x e p f o.
-              says-once info_told x (Info.Is (record { 0 = length s.flags }) (length (runs s.flags)) 0)
+              says-once info_told x (Ok (record { len = record { 0 = length s.flags }; blocks = length (runs s.flags); masks = 0 }))
               (p ∙ ap₂ info_answer f o ∙ info_is big file order good off s.bases s.flags last fits.equal fits.few from-record);
           sequence =
               λ κs a x e p f o k l m n.
               let bases = a.1.1.0.now in
               let flags = a.1.1.1.0.now in
               let done = record_outcome_lem big file order good off s.bases s.flags last fits.equal fits.few from-record bases flags k l m n in (
-                says-once read_told x (Read.Is (record { 0 = length s.flags }) 0)
+                says-once read_told x (Ok (record { len = record { 0 = length s.flags }; masks = 0 }))
                     (p.0 ∙ ap₂ (λ (d : List ℕ) (r : ℕ). record_answer d r bases flags) f o
                     ∙ record_is big file order good off s.bases s.flags last fits.equal fits.few from-record bases flags done),
                 (
@@ -343,12 +340,12 @@ all_read big ss few fit near =
     record {
       check =
           λ κs a x e p f.
-          says-once sized_told x (Sized.Is (length ss))
+          says-once told x (Ok (length ss))
           (p ∙ ap check_answer f ∙ sound_accepted (file_of big 0 offset_size ss) (accepted big ss few fit near)
-          ∙ ap (λ (n : ℕ). answer Done n 0) (counted big 0 offset_size ss few));
+          ∙ ap (λ (n : ℕ). answer (Ok tt) n 0) (counted big 0 offset_size ss few));
       first =
           λ κs a x e p f.
-          says-once cursor_told x (Cursor.Is 0 (entry_place [])) (p ∙ ap first_answer f ∙ first_done (file_of big 0 offset_size ss) (accepted big ss few fit near));
+          says-once cursor_told x (Ok (record { number = 0; at = entry_place [] })) (p ∙ ap first_answer f ∙ first_done (file_of big 0 offset_size ss) (accepted big ss few fit near));
       each =
           λ pre s post q.
           subst (λ (l : List Sequence). length l < 2 ^ 32 → AllFit l → Near offset_size (entry_place l) l → OneRead (file_of big 0 offset_size l) l pre s) (sym q)

@@ -1,8 +1,8 @@
 -- The answers of check, first and entry, from what was found.
 -- Assumes nothing.
+use Rattle.std.specs.Prelude.{Ok, Err, None}
 use mathlib.Core.Bool.{Bool, true, false, ◌&&◌, not}
 use mathlib.Core.List.{List, [], ◌∷◌}
-use mathlib.Core.Option.{none}
 use mathlib.Core.Path.{◌≡◌, refl, sym, ap, ap₂, ◌∙◌, subst}
 use Prim.Native.Nat.{ℕ, suc, ◌+◌, ◌≤◌, ◌<◌}
 use native.Mathlib.Numerals.{add-one}
@@ -10,7 +10,6 @@ use borrow.Author.Tests.{le-leb, lt-leb, lt-ltb, le-ltb}
 use lib.Dec.{leb, ltb}
 use lib.ListN.{length}
 use Rattle.codes.specs.Refusals.{Test, answer, first}
-use Rattle.codes.specs.declared.refusals.Outcome.TheVariants.{Done, Refused}
 use Rattle.codes.specs.declared.refusals.Refusal.TheVariants.{BadRange, BadForm}
 use Rattle.codes.proofs.OutcomeLaws.{answer_done}
 use Rattle.codes.proofs.TestLaws.{first_at, answer_at}
@@ -25,16 +24,16 @@ module _ (file : List ℕ) where
   body = are_entries (is_big file) file offset_size (sequences file) header_size
 
   -- check: no sound file
-  check_bad : is_two_bit file ≡ false → answer (Refused BadForm) 0 0 ≡ check_answer file
+  check_bad : is_two_bit file ≡ false → answer (Err BadForm) 0 0 ≡ check_answer file
   unfolding check_answer
   check_bad e = answer_at 0 (bad_form (is_two_bit file) ∷ []) BadForm (sequences file) 0 refl (ap not e)
 
   -- check, first: no right header
-  pub check_header : header_found file ≡ none → answer (Refused BadForm) 0 0 ≡ check_answer file
+  pub check_header : header_found file ≡ None → answer (Err BadForm) 0 0 ≡ check_answer file
   unfolding is_two_bit
   check_header e = check_bad (ap (λ (t : Bool). t && body) (header_bad file e))
 
-  pub first_header : header_found file ≡ none → answer {A = ℕ × ℕ} (Refused BadForm) (0, 0) (0, 0) ≡ first_answer file
+  pub first_header : header_found file ≡ None → answer {A = ℕ × ℕ} (Err BadForm) (0, 0) (0, 0) ≡ first_answer file
   unfolding first_answer
   first_header e = answer_at 0 (bad_form (good_header file) ∷ []) BadForm (0, header_size) (0, 0) refl (ap not (header_bad file e))
 
@@ -44,16 +43,16 @@ module _ (file : List ℕ) where
     unfolding is_two_bit
     check_is = ap (λ (t : Bool). t && body) h.good ∙ sym (ap₂ (λ (b : Bool) (m : ℕ). are_entries b file offset_size m header_size) h.order h.count)
 
-    pub check_entries : are_entries big file offset_size n header_size ≡ false → answer (Refused BadForm) 0 0 ≡ check_answer file
+    pub check_entries : are_entries big file offset_size n header_size ≡ false → answer (Err BadForm) 0 0 ≡ check_answer file
     check_entries e = check_bad (check_is ∙ e)
 
-    pub check_done : are_entries big file offset_size n header_size ≡ true → answer Done n 0 ≡ check_answer file
+    pub check_done : are_entries big file offset_size n header_size ≡ true → answer (Ok tt) n 0 ≡ check_answer file
     unfolding check_answer
     check_done e =
         answer_done (first (bad_form (is_two_bit file) ∷ [])) n (sequences file) 0 (sym (first_at 1 (bad_form (is_two_bit file) ∷ []) (ap not (check_is ∙ e), tt))) h.count
 
     -- first: behind it the index begins
-    pub first_done : answer {A = ℕ × ℕ} Done (0, header_size) (0, 0) ≡ first_answer file
+    pub first_done : answer {A = ℕ × ℕ} (Ok tt) (0, header_size) (0, 0) ≡ first_answer file
     unfolding first_answer
     first_done =
         answer_done (first (bad_form (good_header file) ∷ [])) (0, header_size) (0, header_size) (0, 0) (sym (first_at 1 (bad_form (good_header file) ∷ []) (ap not h.good, tt))) refl
@@ -67,7 +66,7 @@ module _ (k : ℕ) (file : List ℕ) (number at : ℕ) where
   values = ((suc at, name_size (is_big file) file at), (offset_at (is_big file) file k at, (suc number, entry_end (is_big file) file k at)))
 
   -- no right header
-  pub entry_header : header_found file ≡ none → answer (Refused BadForm) no_entry no_entry ≡ entry_answer k file number at
+  pub entry_header : header_found file ≡ None → answer (Err BadForm) no_entry no_entry ≡ entry_answer k file number at
   unfolding entry_answer
   entry_header e = answer_at 0 tests BadForm values no_entry refl (ap not (header_bad file e))
 
@@ -77,7 +76,7 @@ module _ (k : ℕ) (file : List ℕ) (number at : ℕ) where
     past = ap (λ (m : ℕ). leb m number) h.count
 
     -- no such entry
-    pub entry_past : n ≤ number → answer (Refused BadRange) no_entry no_entry ≡ entry_answer k file number at
+    pub entry_past : n ≤ number → answer (Err BadRange) no_entry no_entry ≡ entry_answer k file number at
     unfolding entry_answer
     entry_past l = answer_at 1 tests BadRange values no_entry refl (ap not h.good, sym past ∙ le-leb n number l)
 
@@ -86,7 +85,7 @@ module _ (k : ℕ) (file : List ℕ) (number at : ℕ) where
       known = sym past ∙ lt-leb n number l
 
       -- the entry is cut
-      pub entry_short : entry_found big k file at ≡ none → answer (Refused BadForm) no_entry no_entry ≡ entry_answer k file number at
+      pub entry_short : entry_found big k file at ≡ None → answer (Err BadForm) no_entry no_entry ≡ entry_answer k file number at
       unfolding entry_answer
       entry_short e =
           answer_at 2 tests BadForm values no_entry refl (
@@ -94,7 +93,7 @@ module _ (k : ℕ) (file : List ℕ) (number at : ℕ) where
             (
               known,
               ap not
-                  (lt-leb (entry_end (is_big file) file k at) (length file) (entry_none (is_big file) k file at (subst (λ (b : Bool). entry_found b k file at ≡ none) h.order e))),
+                  (lt-leb (entry_end (is_big file) file k at) (length file) (entry_none (is_big file) k file at (subst (λ (b : Bool). entry_found b k file at ≡ None) h.order e))),
             ),
           )
 
@@ -111,13 +110,13 @@ module _ (k : ℕ) (file : List ℕ) (number at : ℕ) where
         far = ap (λ (m : ℕ). ltb m (length file)) v.placed
 
         -- a record behind the file
-        pub entry_far : length file ≤ offset → answer (Refused BadForm) no_entry no_entry ≡ entry_answer k file number at
+        pub entry_far : length file ≤ offset → answer (Err BadForm) no_entry no_entry ≡ entry_answer k file number at
         unfolding entry_answer
         entry_far g =
             answer_at 3 tests BadForm values no_entry refl (ap not h.good, (known, (in_file, ap not (sym far ∙ le-ltb offset (length file) g))))
 
         -- an entry that is given
-        pub entry_done : offset < length file → answer {A = Entered} Done ((at + 1, size), (offset, (number + 1, end))) no_entry ≡ entry_answer k file number at
+        pub entry_done : offset < length file → answer {A = Entered} (Ok tt) ((at + 1, size), (offset, (number + 1, end))) no_entry ≡ entry_answer k file number at
         unfolding entry_answer
         entry_done g =
             answer_done (first tests) ((at + 1, size), (offset, (number + 1, end))) values no_entry

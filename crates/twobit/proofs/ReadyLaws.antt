@@ -1,8 +1,8 @@
 -- Whether a record can be read: the refusals in their order; what holds where none applies.
 -- Assumes nothing.
+use Rattle.std.specs.Prelude.{Ok, Err, Some, None}
 use mathlib.Core.Bool.{Bool, true, false, ◌&&◌, not}
 use mathlib.Core.List.{List, [], ◌∷◌}
-use mathlib.Core.Option.{some, none}
 use mathlib.Core.Path.{◌≡◌, refl, sym, ap, ap₂, ◌∙◌, subst}
 use Prim.Native.Nat.{ℕ, ◌+◌, ◌^◌, ◌≤◌}
 use native.Mathlib.Omega.{arith}
@@ -12,11 +12,11 @@ use lib.ListN.{length}
 use Rattle.codes.specs.Codes.{up, trailing, char_at, tab}
 use Rattle.codes.specs.Refusals.{Test, Answer, answer, first, too_long, bad_store}
 use Rattle.codes.specs.Words.{packed}
-use Rattle.codes.specs.declared.refusals.Outcome.TheVariants.{Done, Refused}
 use Rattle.codes.specs.declared.refusals.Refusal.TheVariants.{TooLong, BadForm, NoRoom}
 use Rattle.codes.proofs.OutcomeLaws.{answer_done}
 use Rattle.codes.proofs.RefusalLaws.{answer-outcome, answer-values, both}
-use Rattle.codes.proofs.WidthLaws.{width_2, up-hi}
+use Rattle.codes.specs.Widths.{width_2}
+use Rattle.codes.proofs.WidthLaws.{up-hi}
 use Rattle.dna.specs.Dna.{bases_at}
 use Rattle.forms.specs.Reading.{filled_with}
 use Rattle.codes.proofs.TestLaws.{first_at, first_none, answer_at}
@@ -36,17 +36,17 @@ module _ (file : List ℕ) (r : ℕ) where
   good = good_header file && is_record (is_big file) file r
 
   -- no right header, or no sound record
-  good_header_lem : header_found file ≡ none → good ≡ false
+  good_header_lem : header_found file ≡ None → good ≡ false
   good_header_lem e = ap (λ (t : Bool). t && is_record (is_big file) file r) (header_bad file e)
 
   module _ (big : Bool) (k : ℕ) (h : Headed file big k) where
-    good_record : record_found big file r ≡ none → good ≡ false
+    good_record : record_found big file r ≡ None → good ≡ false
     good_record e =
         ap (λ (t : Bool). good_header file && t)
         (ap (λ (b : Bool). is_record b file r) (sym h.order) ∙ none_test (is_record big file r) (parts_of big file r) e)
         ∙ and_false (good_header file)
 
-    module _ (x : Places) (e : record_found big file r ≡ some x) where
+    module _ (x : Places) (e : record_found big file r ≡ Some x) where
       -- its parts, in the file's byte order
       whole : x ≡ parts_of (is_big file) file r
       whole = some_value (is_record big file r) (parts_of big file r) x e ∙ ap (λ (b : Bool). parts_of b file r) h.order
@@ -58,17 +58,17 @@ module _ (file : List ℕ) (r : ℕ) where
           (ap (λ (b : Bool). is_record b file r) (sym h.order) ∙ some_test (is_record big file r) (parts_of big file r) x e))
 
       -- what is told of it
-      pub info_done : (len : ℕ) → len ≡ x.0 → answer Done (len, (x.1.0, x.1.1.0)) no_info ≡ info_answer file r
+      pub info_done : (len : ℕ) → len ≡ x.0 → answer (Ok tt) (len, (x.1.0, x.1.1.0)) no_info ≡ info_answer file r
       unfolding info_answer info_outcome
       info_done len el =
           answer_done (info_outcome file r) (len, (x.1.0, x.1.1.0)) _ no_info (sym (first_at 1 (bad_record file r ∷ []) (sound, tt)))
           (ap (λ (n : ℕ). (n, (x.1.0, x.1.1.0))) el ∙ ap (λ (y : Places). (y.0, (y.1.0, y.1.1.0))) whole)
 
-    pub info_record : record_found big file r ≡ none → answer (Refused BadForm) no_info no_info ≡ info_answer file r
+    pub info_record : record_found big file r ≡ None → answer (Err BadForm) no_info no_info ≡ info_answer file r
     unfolding info_answer info_outcome
     info_record e = answer_at 0 (bad_record file r ∷ []) BadForm _ no_info refl (ap not (good_record e))
 
-  pub info_header : header_found file ≡ none → answer (Refused BadForm) no_info no_info ≡ info_answer file r
+  pub info_header : header_found file ≡ None → answer (Err BadForm) no_info no_info ≡ info_answer file r
   unfolding info_answer info_outcome
   info_header e = answer_at 0 (bad_record file r ∷ []) BadForm _ no_info refl (ap not (good_header_lem e))
 
@@ -81,26 +81,26 @@ module _ (file : List ℕ) (r m n : ℕ) where
   ready_answer = answer (first tests) (held_at file r) none_held
 
   -- the first buffer is too long, or the second
-  pub ready_first : (too_long m).0 ≡ true → answer (Refused TooLong) none_held none_held ≡ ready_answer
+  pub ready_first : (too_long m).0 ≡ true → answer (Err TooLong) none_held none_held ≡ ready_answer
   ready_first e = answer_at 0 tests TooLong (held_at file r) none_held refl e
 
   module _ (em : (too_long m).0 ≡ false) where
-    pub ready_second : (too_long n).0 ≡ true → answer (Refused TooLong) none_held none_held ≡ ready_answer
+    pub ready_second : (too_long n).0 ≡ true → answer (Err TooLong) none_held none_held ≡ ready_answer
     ready_second e = answer_at 1 tests TooLong (held_at file r) none_held refl (em, e)
 
     module _ (en : (too_long n).0 ≡ false) where
-      ready_bad : good file r ≡ false → answer (Refused BadForm) none_held none_held ≡ ready_answer
+      ready_bad : good file r ≡ false → answer (Err BadForm) none_held none_held ≡ ready_answer
       ready_bad e = answer_at 2 tests BadForm (held_at file r) none_held refl (em, (en, ap not e))
 
       -- no right header, or no sound record
-      pub ready_header : header_found file ≡ none → answer (Refused BadForm) none_held none_held ≡ ready_answer
+      pub ready_header : header_found file ≡ None → answer (Err BadForm) none_held none_held ≡ ready_answer
       ready_header e = ready_bad (good_header_lem file r e)
 
       module _ (big : Bool) (k : ℕ) (h : Headed file big k) where
-        pub ready_record : record_found big file r ≡ none → answer (Refused BadForm) none_held none_held ≡ ready_answer
+        pub ready_record : record_found big file r ≡ None → answer (Err BadForm) none_held none_held ≡ ready_answer
         ready_record e = ready_bad (good_record file r big k h e)
 
-        module _ (x : Places) (e : record_found big file r ≡ some x) where
+        module _ (x : Places) (e : record_found big file r ≡ Some x) where
           size_is : x.0 ≡ size_at (is_big file) file r
           size_is = ap (λ (y : Places). y.0) (whole file r big k h x e)
 
@@ -112,26 +112,25 @@ module _ (file : List ℕ) (r m n : ℕ) where
           fits w k len b el eb = sym (eb ∙ ap (λ (i : ℕ). ltb k (up w i + trailing)) (el ∙ size_is))
 
           -- no room for the bases, or none for the flags; else the record is ready
-          pub ready_bases : (len : ℕ) → len ≡ x.0 → true ≡ (bad_store 2 m len).0 → answer (Refused NoRoom) none_held none_held ≡ ready_answer
+          pub ready_bases : (len : ℕ) → len ≡ x.0 → true ≡ (bad_store 2 m len).0 → answer (Err NoRoom) none_held none_held ≡ ready_answer
           ready_bases len el eb = answer_at 3 tests NoRoom (held_at file r) none_held refl (em, (en, (right, fits 2 m len true el eb)))
 
           module _ (len : ℕ) (el : len ≡ x.0) (eb : false ≡ (bad_store 2 m len).0) where
-            pub ready_flags : (len' : ℕ) → len' ≡ x.0 → true ≡ (bad_store 1 n len').0 → answer (Refused NoRoom) none_held none_held ≡ ready_answer
-            ready_flags len' el' eb' =
-                answer_at 4 tests NoRoom (held_at file r) none_held refl (em, (en, (right, (fits 2 m len false el eb, fits 1 n len' true el' eb'))))
+            pub ready_flags : true ≡ (bad_store 1 n len).0 → answer (Err NoRoom) none_held none_held ≡ ready_answer
+            ready_flags eb' =
+                answer_at 4 tests NoRoom (held_at file r) none_held refl (em, (en, (right, (fits 2 m len false el eb, fits 1 n len true el eb'))))
 
-            pub ready_done : (len' : ℕ) → len' ≡ x.0 → false ≡ (bad_store 1 n len').0
-                → answer {A = Held} Done (big, (x.0, (x.1.0, (x.1.1.0, x.1.1.1.1)))) none_held ≡ ready_answer
-            ready_done len' el' eb' =
+            pub ready_done : false ≡ (bad_store 1 n len).0 → answer {A = Held} (Ok tt) (big, (x.0, (x.1.0, (x.1.1.0, x.1.1.1.1)))) none_held ≡ ready_answer
+            ready_done eb' =
                 answer_done (first tests) (big, (x.0, (x.1.0, (x.1.1.0, x.1.1.1.1)))) (held_at file r) none_held
-                (sym (first_at 5 tests (em, (en, (right, (fits 2 m len false el eb, (fits 1 n len' false el' eb', tt)))))))
+                (sym (first_at 5 tests (em, (en, (right, (fits 2 m len false el eb, (fits 1 n len false el eb', tt)))))))
                 (ap₂ (λ (b : Bool) (y : Places). (b, (y.0, (y.1.0, (y.1.1.0, y.1.1.1.1))))) h.order (whole file r big k h x e))
 
   -- ---- a record that can be read
 
   -- its byte order, size, number of N blocks and place of bases are the definition's, and lie where they are asked to
   pub record Readable (x : Held) : Type 0 where
-    pub done : first tests ≡ Done
+    pub done : first tests ≡ Ok tt
     pub whole : x ≡ held_at file r
     pub count : x.1.1.0 ≡ block_count x.0 file (r + 4)
     pub inside : all_inside x.1.0 (blocks_at x.0 file (r + 4)) ≡ true
@@ -141,7 +140,7 @@ module _ (file : List ℕ) (r m n : ℕ) where
     pub flag-room : up 1 x.1.0 + trailing ≤ n
     pub few : x.1.0 ≤ 2 ^ 32
 
-  held_readable : first tests ≡ Done → Readable (held_at file r)
+  held_readable : first tests ≡ Ok tt → Readable (held_at file r)
   unfolding is_record
   held_readable e =
       let t = first_none tests e in
@@ -164,9 +163,9 @@ module _ (file : List ℕ) (r m n : ℕ) where
         few = omega (arith, b, ltb-false (2 ^ 28) m t.0, up-hi width_2 size);
       }
 
-  pub readable : (x : Held) → answer Done x none_held ≡ ready_answer → Readable x
+  pub readable : (x : Held) → answer (Ok tt) x none_held ≡ ready_answer → Readable x
   readable x e =
-      let d = sym (answer-outcome Done (first tests) x (held_at file r) none_held none_held e) in
+      let d = sym (answer-outcome (Ok tt) (first tests) x (held_at file r) none_held none_held e) in
       let v = answer-values x (held_at file r) none_held none_held (e ∙ ap (λ (o : _). answer o (held_at file r) none_held) d) in
       subst Readable (sym v) (held_readable d)
 

@@ -2,7 +2,8 @@
 -- Assumes nothing.
 use Rattle.codes.proofs.Permitted.{Refuses, skip}
 use Rattle.codes.proofs.RefusalLaws.{refused_keeps}
-use Rattle.twobit.specs.Answers.{sized_says, cursor_says, entry_says, info_says, read_says}
+use Rattle.codes.specs.Answers.{says}
+use Rattle.twobit.specs.Answers.{cursor_says, entry_says, info_says, read_says}
 use Rattle.twobit.specs.Reading.{check_answer, first_answer, entry_outcome, entry_answer, info_outcome, info_answer, record_outcome, record_answer, bases_after, flags_after}
 use Rattle.twobit.proofs.reading.check.Kinds as check·kinds
 use Rattle.twobit.proofs.reading.check.Reads as check
@@ -15,7 +16,7 @@ use Rattle.twobit.proofs.reading.record_info.Reads as record-info
 use Rattle.twobit.proofs.reading.record.Kinds as record·kinds
 use Rattle.twobit.proofs.reading.record.Reads as record·reads
 
-pub check_refused : Refuses 1 check·kinds.ps check·kinds.r check.Post (λ κs. sized_says) (λ κs a. (0, skip 1 tt))
+pub check_refused : Refuses 1 check·kinds.ps check·kinds.r check.Post (λ κs. says) (λ κs a. (0, skip 1 tt))
 unfolding check_answer
 check_refused κs a x v p h = let n = rw p at h in rw (p, refused_keeps)
 

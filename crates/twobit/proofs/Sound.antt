@@ -1,5 +1,6 @@
 -- A file is accepted just where it is a sound one; and of an accepted file no entry is refused, nor any record that has room.
 -- Assumes nothing.
+use Rattle.std.specs.Prelude.{Ok}
 use mathlib.Core.Bool.{Bool, true, false, ◌&&◌}
 use mathlib.Core.List.{List, [], ◌∷◌}
 use mathlib.Core.Path.{◌≡◌, refl, ap}
@@ -10,7 +11,6 @@ use lib.Dec.{leb}
 use lib.ListN.{length}
 use Rattle.codes.specs.Codes.{up, trailing}
 use Rattle.codes.specs.Refusals.{answer, first}
-use Rattle.codes.specs.declared.refusals.Outcome.TheVariants.{Done}
 use Rattle.codes.proofs.RefusalLaws.{both}
 use Rattle.twobit.specs.Files.{header_size, offset_size}
 use Rattle.twobit.specs.Reading.{good_header, is_big, sequences, size_at, blocks_end, dna_place, is_record, entry_end, offset_at, are_entries, is_two_bit, bad_form}
@@ -26,7 +26,7 @@ pub accepted_sound : (file : List ℕ) → (check_answer file).no ≡ 0 → is_t
 unfolding check_answer
 accepted_sound file e = told (is_two_bit file) (sequences file) e
 
-pub sound_accepted : (file : List ℕ) → is_two_bit file ≡ true → check_answer file ≡ answer Done (sequences file) 0
+pub sound_accepted : (file : List ℕ) → is_two_bit file ≡ true → check_answer file ≡ answer (Ok tt) (sequences file) 0
 unfolding check_answer
 sound_accepted file e = ap (λ (b : Bool). answer (first (bad_form b ∷ [])) (sequences file) 0) e
 
@@ -82,12 +82,12 @@ module _ (file : List ℕ) (sound : is_two_bit file ≡ true) where
   entries_sound i l =
       entry_sound_lem (is_big file) file offset_size (sequences file) header_size i (both (good_header file) (are_entries (is_big file) file offset_size (sequences file) header_size) sound).1 l
 
-  pub first_done : first_answer file ≡ answer Done (0, place_of 0) (0, 0)
+  pub first_done : first_answer file ≡ answer (Ok tt) (0, place_of 0) (0, 0)
   unfolding first_answer place_from
   first_done = ap (λ (b : Bool). answer (first (bad_form b ∷ [])) (0, header_size) (0, 0)) header
 
   -- no entry is refused
-  pub entry_done : (i : ℕ) → i < sequences file → entry_outcome offset_size file i (place_of i) ≡ Done
+  pub entry_done : (i : ℕ) → i < sequences file → entry_outcome offset_size file i (place_of i) ≡ Ok tt
   unfolding entry_outcome
   entry_done i l =
       let s = entries_sound i l in
@@ -96,7 +96,7 @@ module _ (file : List ℕ) (sound : is_two_bit file ≡ true) where
   -- nor any record that has room
   pub record_done : (i : ℕ) → i < sequences file → (bases flags : List ℕ) → let r = offset_at (is_big file) file offset_size (place_of i) in
       length bases ≤ 2 ^ 28 → length flags ≤ 2 ^ 28 → up 2 (size_at (is_big file) file r) + trailing ≤ length bases → up 1 (size_at (is_big file) file r) + trailing ≤ length flags
-      → record_outcome file r bases flags ≡ Done
+      → record_outcome file r bases flags ≡ Ok tt
   unfolding record_outcome
   record_done i l bases flags a b c d =
       let s = entries_sound i l in

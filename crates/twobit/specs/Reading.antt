@@ -5,9 +5,8 @@ use Rattle.std.proofs.Math.Bool.{true}
 use Prim.Native.Nat.{ℕ, zero, suc, ◌+◌, ◌*◌}
 use Rattle.std.proofs.Math.Dec.{leb}
 use Rattle.codes.specs.Codes.{up, trailing, tab}
-use Rattle.codes.specs.Refusals.{Test, Answer, answer, first, if_done, too_long, no_room}
+use Rattle.codes.specs.Refusals.{Test, Answer, answer, first, if_done, too_long, no_room, Outcome}
 use Rattle.codes.specs.Words.{packed}
-use Rattle.codes.specs.declared.refusals.Outcome.{Outcome}
 use Rattle.codes.specs.declared.refusals.Refusal.TheVariants.{BadRange, BadForm}
 use Rattle.dna.specs.Dna.{bases_at}
 use Rattle.dna.specs.Numbers.{number_at}

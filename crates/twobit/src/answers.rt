@@ -1,48 +1,34 @@
 // What the calls that read .2bit files answer.
-use codes::refusals::Refusal;
 use codes::units::Chars;
-
-// A count: of bytes, or of sequences.
-#[derive(Clone, Copy)]
-pub enum Sized {
-    Is(usize),
-    Refused(Refusal),
-}
 
 // An entry of the index: its number, and the byte at which it stands.
 #[derive(Clone, Copy)]
-pub enum Cursor {
-    Is { number: usize, at: usize },
-    Refused(Refusal),
+pub struct Cursor {
+    pub number: usize,
+    pub at: usize,
 }
 
 // The name's first byte and its size, the record's offset, and the next entry's number and place.
 #[derive(Clone, Copy)]
-pub enum Entry {
-    Is {
-        name: usize,
-        size: usize,
-        offset: usize,
-        number: usize,
-        at: usize,
-    },
-    Refused(Refusal),
+pub struct Entry {
+    pub name: usize,
+    pub size: usize,
+    pub offset: usize,
+    pub number: usize,
+    pub at: usize,
 }
 
 // The length of a record's sequence, and the number of its N blocks and of its mask blocks.
 #[derive(Clone, Copy)]
-pub enum Info {
-    Is {
-        len: Chars,
-        blocks: usize,
-        masks: usize,
-    },
-    Refused(Refusal),
+pub struct Info {
+    pub len: Chars,
+    pub blocks: usize,
+    pub masks: usize,
 }
 
 // The length of both stores, and the number of mask blocks.
 #[derive(Clone, Copy)]
-pub enum Read {
-    Is { len: Chars, masks: usize },
-    Refused(Refusal),
+pub struct Read {
+    pub len: Chars,
+    pub masks: usize,
 }

@@ -1,5 +1,6 @@
 -- The tests of a file that is written, one by one.
 -- Assumes nothing.
+use Rattle.std.specs.Prelude.{Result, Ok, Err}
 use mathlib.Core.Bool.{Bool, true, false, ◌&&◌, not}
 use mathlib.Core.List.{List, [], ◌∷◌}
 use mathlib.Core.Path.{◌≡◌, refl, sym, ap, ap₂, ◌∙◌, subst}
@@ -9,20 +10,17 @@ use native.Mathlib.Omega.{arith}
 use lib.Dec.{leb, ltb, eqb}
 use lib.ListN.{length, take, drop}
 use borrow.Author.Tests.{lt-ltb, le-ltb, le-leb, lt-leb, eq-eqb, ne_eqb, ltb-true, ltb-false, leb-true, leb-false, eqb-true, not-false}
+use Rattle.codes.specs.Answers.{says}
 use Rattle.codes.specs.Codes.{chars}
-use Rattle.codes.specs.Refusals.{Test, answer, first, if_done, view_tests}
-use Rattle.codes.specs.declared.refusals.Outcome.{Outcome}
-use Rattle.codes.specs.declared.refusals.Outcome.TheVariants.{Done, Refused}
+use Rattle.codes.specs.Refusals.{Test, answer, first, if_done, view_tests, Outcome}
 use Rattle.codes.specs.declared.refusals.Refusal.{Refusal}
 use Rattle.codes.specs.declared.refusals.Refusal.TheVariants.{BadRange}
 use Rattle.codes.proofs.OutcomeLaws.{answer_done}
 use Rattle.codes.proofs.RefusalLaws.{answer-outcome, answer-values}
 use Rattle.codes.proofs.WidthLaws.{below_or}
 use Rattle.codes.proofs.TestLaws.{Stops, refused_at, first_at, answer_at, None, first_past, first_none}
-use Rattle.twobit.specs.Answers.{sized_says}
 use Rattle.twobit.specs.Files.{header_size, entry_size, record_size}
-use Rattle.twowrite.specs.Writing.{writing, add_tests, add_outcome, added, add_answer, bad_state, unfinished, finish_answer}
-use Rattle.twobit.specs.declared.answers.Sized.{Sized}
+use Rattle.twowrite.specs.Writing.{add_tests, add_outcome, added, add_answer, bad_state, unfinished, finish_answer}
 use Rattle.twowrite.specs.declared.answers.Writing.{Writing}
 
 -- k tests do not hold, nor does the next one
@@ -32,8 +30,8 @@ none_next (suc k) [] h x = tt
 none_next (suc k) (t ∷ ts) h x = (h.0, none_next k ts h.1 x)
 
 -- or it holds, and its refusal is the answer
-pub answer-next : {A : Type 0} (k : ℕ) (ts : List Test) (r : Refusal) (v z : A) → None (take k ts) → refused_at 0 (drop k ts) ≡ Refused r → Stops 0 (drop k ts)
-    → answer (Refused r) z z ≡ answer (first ts) v z
+pub answer-next : {A : Type 0} (k : ℕ) (ts : List Test) (r : Refusal) (v z : A) → None (take k ts) → refused_at 0 (drop k ts) ≡ Err r → Stops 0 (drop k ts)
+    → answer (Err r) z z ≡ answer (first ts) v z
 answer-next k ts r v z h e x = answer_at 0 (drop k ts) r v z e x ∙ ap (λ (o : Outcome). answer o v z) (first_past k ts h)
 
 -- one of three conditions fails, or none
@@ -71,18 +69,12 @@ shifted_some m at h =
     below_or at m (λ l. le-ltb 0 (at / m) (le_of_eq (div-eq_of_lt l)) ∙ sym (lt-leb m at l))
     (λ l. lt-ltb 0 (at / m) ((le-div_iff_mul-le h).1 (subst (λ (x : ℕ). x ≤ at) (sym (one-mul m)) l)) ∙ sym (le-leb m at l))
 
--- a state that has no sequence left, one whose entry does not fit, and the others
-module _ (k entry stop place left n : ℕ) where
-  pub state_none : left ≡ 0 → true ≡ (bad_state k (writing entry stop place left) n).0
-  state_none e = fails_1 (ltb 0 left) (leb (entry + entry_size k n) stop) (leb stop place) (le-ltb 0 left (le_of_eq e))
-
-  pub state_full : stop < entry + entry_size k n → true ≡ (bad_state k (writing entry stop place left) n).0
-  state_full l = fails_2 (ltb 0 left) (leb (entry + entry_size k n) stop) (leb stop place) (lt-leb (entry + entry_size k n) stop l)
-
-  pub state_place : 0 < left → entry + entry_size k n ≤ stop → ltb place stop ≡ (bad_state k (writing entry stop place left) n).0
+-- a state that has a sequence left, and whose entry fits
+module _ (k : ℕ) (s : Writing) (n : ℕ) where
+  pub state_place : 0 < s.left → s.entry + entry_size k n ≤ s.stop → ltb s.place s.stop ≡ (bad_state k s n).0
   state_place h l =
-      not-leb place stop
-      ∙ fails_last (ltb 0 left) (leb (entry + entry_size k n) stop) (leb stop place) (lt-ltb 0 left h) (le-leb (entry + entry_size k n) stop l)
+      not-leb s.place s.stop
+      ∙ fails_last (ltb 0 s.left) (leb (s.entry + entry_size k n) s.stop) (leb s.stop s.place) (lt-ltb 0 s.left h) (le-leb (s.entry + entry_size k n) s.stop l)
 
 -- one of two conditions fails
 and_no : (a b : Bool) → b ≡ false → (a && b) ≡ false
@@ -95,27 +87,27 @@ module _ (s : Writing) where
   abbrev between : Bool
   between = leb header_size s.stop && leb s.stop s.place
 
-  refused : true ≡ (unfinished s).0 → answer (Refused BadRange) 0 0 ≡ finish_answer s
+  refused : true ≡ (unfinished s).0 → answer (Err BadRange) 0 0 ≡ finish_answer s
   unfolding finish_answer
   refused e = answer_at 0 (unfinished s ∷ []) BadRange s.place 0 refl (sym e)
 
-  pub finish_left : (s.left ≡ 0 → ⊥) → answer (Refused BadRange) 0 0 ≡ finish_answer s
+  pub finish_left : (s.left ≡ 0 → ⊥) → answer (Err BadRange) 0 0 ≡ finish_answer s
   finish_left h = refused (fails_1 (eqb s.left 0) (eqb s.entry s.stop) between (ne_eqb s.left 0 h))
 
-  pub finish_entry : (s.entry ≡ s.stop → ⊥) → answer (Refused BadRange) 0 0 ≡ finish_answer s
+  pub finish_entry : (s.entry ≡ s.stop → ⊥) → answer (Err BadRange) 0 0 ≡ finish_answer s
   finish_entry h = refused (fails_2 (eqb s.left 0) (eqb s.entry s.stop) between (ne_eqb s.entry s.stop h))
 
-  pub finish_header : s.stop < header_size → answer (Refused BadRange) 0 0 ≡ finish_answer s
+  pub finish_header : s.stop < header_size → answer (Err BadRange) 0 0 ≡ finish_answer s
   finish_header h =
       refused
       (fails_3 (eqb s.left 0) (eqb s.entry s.stop) between (ap (λ (b : Bool). b && leb s.stop s.place) (lt-leb header_size s.stop h)))
 
-  pub finish_place : s.place < s.stop → answer (Refused BadRange) 0 0 ≡ finish_answer s
+  pub finish_place : s.place < s.stop → answer (Err BadRange) 0 0 ≡ finish_answer s
   finish_place h =
       refused
       (fails_3 (eqb s.left 0) (eqb s.entry s.stop) between (and_no (leb header_size s.stop) (leb s.stop s.place) (lt-leb s.stop s.place h)))
 
-  pub finish_done : s.left ≡ 0 → s.entry ≡ s.stop → header_size ≤ s.stop → s.stop ≤ s.place → answer Done s.place 0 ≡ finish_answer s
+  pub finish_done : s.left ≡ 0 → s.entry ≡ s.stop → header_size ≤ s.stop → s.stop ≤ s.place → answer (Ok tt) s.place 0 ≡ finish_answer s
   unfolding finish_answer
   finish_done l e k h =
       answer_done (first (unfinished s ∷ [])) s.place s.place 0
@@ -130,19 +122,19 @@ module _ (s : Writing) where
 -- ---- adding a sequence
 
 -- what a count says of the tests
-pub sized_refused : (x : Sized) (r : Refusal) (o : Outcome) (v : ℕ) → x ≡ Sized.Refused r → sized_says x ≡ answer o v 0 → o ≡ Refused r
-sized_refused x r o v e h = sym (answer-outcome (Refused r) o 0 v 0 0 (sym (ap sized_says e) ∙ h))
+pub sized_refused : (x : Result ℕ Refusal) (r : Refusal) (o : Outcome) (v : ℕ) → x ≡ Err r → says x ≡ answer o v 0 → o ≡ Err r
+sized_refused x r o v e h = sym (answer-outcome (Err r) o 0 v 0 0 (sym (ap says e) ∙ h))
 
-pub sized_is : (x : Sized) (n : ℕ) (o : Outcome) (v : ℕ) → x ≡ Sized.Is n → sized_says x ≡ answer o v 0 → (o ≡ Done) × (n ≡ v)
+pub sized_is : (x : Result ℕ Refusal) (n : ℕ) (o : Outcome) (v : ℕ) → x ≡ Ok n → says x ≡ answer o v 0 → (o ≡ Ok tt) × (n ≡ v)
 sized_is x n o v e h =
-    let d : answer Done n 0 ≡ answer o v 0 = sym (ap sized_says e) ∙ h in
-    let p : o ≡ Done = sym (answer-outcome Done o n v 0 0 d) in
+    let d : answer (Ok tt) n 0 ≡ answer o v 0 = sym (ap says e) ∙ h in
+    let p : o ≡ Ok tt = sym (answer-outcome (Ok tt) o n v 0 0 d) in
     (p, answer-values n v 0 0 (d ∙ ap (λ (q : Outcome). answer q v 0) p))
 
 -- what holds where adding is not refused
 pub record Addable (k : ℕ) (s : Writing) (name m ao al : ℕ) (ys : List ℕ) (bo bl room : ℕ) : Type 0 where
-  pub base_view : first (view_tests 2 m ao al) ≡ Done
-  pub flag-view : first (view_tests 1 (length ys) bo bl) ≡ Done
+  pub base_view : first (view_tests 2 m ao al) ≡ Ok tt
+  pub flag-view : first (view_tests 1 (length ys) bo bl) ≡ Ok tt
   pub same : al ≡ bl
   pub short : name ≤ 255
   pub some : 0 < s.left
@@ -151,7 +143,7 @@ pub record Addable (k : ℕ) (s : Writing) (name m ao al : ℕ) (ys : List ℕ) 
   pub near : s.place < 2 ^ (8 * k)
   pub fits : s.place + record_size (chars 1 ys bo bl) ≤ room
 
-pub add_done : (k : ℕ) (s : Writing) (name m ao al : ℕ) (ys : List ℕ) (bo bl room : ℕ) → first (add_tests k s name m ao al ys bo bl room) ≡ Done
+pub add_done : (k : ℕ) (s : Writing) (name m ao al : ℕ) (ys : List ℕ) (bo bl room : ℕ) → first (add_tests k s name m ao al ys bo bl room) ≡ Ok tt
     → Addable k s name m ao al ys bo bl room
 add_done k s name m ao al ys bo bl room e =
     let h = first_none (add_tests k s name m ao al ys bo bl room) e in
@@ -172,8 +164,8 @@ add_done k s name m ao al ys bo bl room e =
 -- ---- where the index ends
 
 stop_kept : (o : Outcome) (a b : Writing) → a.stop ≡ b.stop → (if_done o a b).stop ≡ b.stop
-stop_kept Done a b e = e
-stop_kept (Refused r) a b e = refl
+stop_kept (Ok tt) a b e = e
+stop_kept (Err r) a b e = refl
 
 -- stays as it is
 pub add-stop : (k : ℕ) (s : Writing) (name xs : List ℕ) (ao al : ℕ) (ys : List ℕ) (bo bl : ℕ) (out : List ℕ) → (add_answer k s name xs ao al ys bo bl out).values.stop ≡ s.stop

@@ -1,5 +1,6 @@
 -- Only the characters of the views that are written count: accepted views with equal characters get equal answers and leave equal bytes.
 -- Assumes nothing.
+use Rattle.std.specs.Prelude.{Ok}
 use mathlib.Core.Bool.{false}
 use mathlib.Core.List.{List, [], ◌∷◌}
 use mathlib.Core.Path.{◌≡◌, sym, ◌∙◌}
@@ -8,7 +9,6 @@ use lib.ListN.{length}
 use lib.Seq.{sets}
 use Rattle.codes.specs.Codes.{chars}
 use Rattle.codes.specs.Refusals.{Test, answer, first, view_tests, if_done, no_room}
-use Rattle.codes.specs.declared.refusals.Outcome.TheVariants.{Done}
 use Rattle.codes.proofs.TestLaws.{first_past}
 use Rattle.codes.proofs.Viewed.{Same, view_passed, long}
 use Rattle.twobit.specs.Files.{entry_of, entry_size, record_of, record_size}
@@ -27,8 +27,8 @@ size_answer-viewed f = λ i. answer ((f.left ∙ sym f.right) i) (record_size (f
 abbrev left : ℕ → Writing → ℕ → ℕ → ℕ → List ℕ → ℕ → List Test
 left k s name al bl fs room = unequal al bl ∷ long_name name ∷ bad_state k s name ∷ far_record k s.place ∷ no_room room (s.place + record_size fs) ∷ []
 
-judged : (k : ℕ) (s : Writing) (name xs : List ℕ) (ao al : ℕ) (ys : List ℕ) (bo bl : ℕ) (out : List ℕ) → first (view_tests 2 (length xs) ao al) ≡ Done
-    → first (view_tests 1 (length ys) bo bl) ≡ Done → first (left k s (length name) al bl (chars 1 ys bo bl) (length out)) ≡ add_outcome k s name xs ao al ys bo bl out
+judged : (k : ℕ) (s : Writing) (name xs : List ℕ) (ao al : ℕ) (ys : List ℕ) (bo bl : ℕ) (out : List ℕ) → first (view_tests 2 (length xs) ao al) ≡ Ok tt
+    → first (view_tests 1 (length ys) bo bl) ≡ Ok tt → first (left k s (length name) al bl (chars 1 ys bo bl) (length out)) ≡ add_outcome k s name xs ao al ys bo bl out
 unfolding add_outcome
 judged k s name xs ao al ys bo bl out e f =
     let p = view_passed 2 (length xs) ao al e in

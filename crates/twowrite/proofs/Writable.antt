@@ -2,6 +2,7 @@
 -- said of files whose calls are all done, that they hold just their sequences and read back, is said of these. Followed from call to call is what is
 -- still ahead: so many sequences, an index that they fill, records that lie in reach and have room.
 -- Assumes nothing.
+use Rattle.std.specs.Prelude.{Ok, Err}
 use mathlib.Core.Bool.{Bool, true, false, ◌&&◌, not}
 use mathlib.Core.List.{List, [], ◌∷◌, map}
 use mathlib.Core.Path.{◌≡◌, refl, sym, ap, ◌∙◌, subst}
@@ -12,9 +13,7 @@ use lib.Dec.{leb, ltb}
 use lib.ListN.{length, length-map}
 use lib.Seq.{sets, length-sets}
 use Rattle.codes.specs.Codes.{chars}
-use Rattle.codes.specs.Refusals.{first, if_done, number_of, view_tests}
-use Rattle.codes.specs.declared.refusals.Outcome.{Outcome}
-use Rattle.codes.specs.declared.refusals.Outcome.TheVariants.{Done, Refused}
+use Rattle.codes.specs.Refusals.{first, if_done, number_of, view_tests, Outcome}
 use Rattle.codes.proofs.CharLaws.{length-chars}
 use Rattle.codes.proofs.TestLaws.{first_at}
 use Rattle.codes.proofs.Viewed.{view_passed}
@@ -28,8 +27,8 @@ use Rattle.twowrite.proofs.WrittenFile.{Given, sequence_of, outcome_of, answer_o
 
 -- what is given to a call of add can stand in a file: accepted views of equal length, and a name of at most 255 bytes
 pub record Good (g : Given) : Type 0 where
-  pub base_view : first (view_tests 2 (length g.bases) g.base_offset g.base_length) ≡ Done
-  pub flag-view : first (view_tests 1 (length g.flags) g.flag_offset g.flag_length) ≡ Done
+  pub base_view : first (view_tests 2 (length g.bases) g.base_offset g.base_length) ≡ Ok tt
+  pub flag-view : first (view_tests 1 (length g.flags) g.flag_offset g.flag_length) ≡ Ok tt
   pub same : g.base_length ≡ g.flag_length
   pub short : length g.name ≤ 255
 
@@ -53,7 +52,7 @@ all_three a b c ea eb ec = rw (ea, eb, ec)
 
 -- what can be added is added
 add_goes : (k : ℕ) (s : Writing) (name m ao al : ℕ) (ys : List ℕ) (bo bl room : ℕ) → Addable k s name m ao al ys bo bl room
-    → first (add_tests k s name m ao al ys bo bl room) ≡ Done
+    → first (add_tests k s name m ao al ys bo bl room) ≡ Ok tt
 add_goes k s name m ao al ys bo bl room h =
     let v = view_passed 2 m ao al h.base_view in
     let w = view_passed 1 (length ys) bo bl h.flag-view in
@@ -84,8 +83,8 @@ add_goes k s name m ao al ys bo bl room h =
 
 -- bytes that are set leave the length
 kept : (o : Outcome) (a b : List ℕ) → length a ≡ length b → length (if_done o a b) ≡ length b
-kept Done a b e = e
-kept (Refused r) a b e = refl
+kept (Ok tt) a b e = e
+kept (Err r) a b e = refl
 
 -- ---- what is ahead
 
@@ -116,7 +115,7 @@ module _ (k : ℕ) where
       }
 
   module _ (s : Writing) (g : Given) (out : List ℕ) where
-    goes : Good g → (ss : List Sequence) → Ahead k s (length out) (sequence_of g ∷ ss) → outcome_of k s g out ≡ Done
+    goes : Good g → (ss : List Sequence) → Ahead k s (length out) (sequence_of g ∷ ss) → outcome_of k s g out ≡ Ok tt
     unfolding add_outcome
     goes h ss a =
         add_goes k s (length g.name) (length g.bases) g.base_offset g.base_length g.flags g.flag_offset g.flag_length (length out)
@@ -139,7 +138,7 @@ module _ (k : ℕ) where
         (length-sets (sets out s.entry (entry_of false k g.name s.place)) s.place (record_of false (sequence_of g).bases (sequence_of g).flags)
         ∙ length-sets out s.entry (entry_of false k g.name s.place))
 
-    no-refusal : outcome_of k s g out ≡ Done → (answer_of k s g out).no ≡ 0
+    no-refusal : outcome_of k s g out ≡ Ok tt → (answer_of k s g out).no ≡ 0
     unfolding add_answer
     no-refusal o = ap number_of o
 
@@ -198,7 +197,7 @@ writable version k gs out few good near room =
     whole : length (file_of false version k ss) ≡ index_end k n m + records_size ss
     whole = length-file false version k ss (good_even gs good) ∙ ap (λ (j : ℕ). index_end k j m + records_size ss) count
 
-    begun : start_outcome version k n m out ≡ Done
+    begun : start_outcome version k n m out ≡ Ok tt
     begun = sym (first_at 2 (start_tests k n m (length out)) (lt-leb (2 ^ 32) n few, (le-ltb (length out) (index_end k n m) (omega (arith, whole, room)), tt)))
 
     started : (start_answer version k n m out).no ≡ 0

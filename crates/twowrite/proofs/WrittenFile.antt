@@ -1,6 +1,7 @@
 -- A file that is started, filled with its sequences and finished, every call done: the front of the output is exactly that file, and the rest stays.
 -- The bytes are followed in parts: what stands before the next entry, the gap up to the index's end, the records, and what was there before.
 -- Assumes nothing.
+use Rattle.std.specs.Prelude.{Ok}
 use mathlib.Core.Bool.{false, ◌&&◌}
 use mathlib.Core.List.{List, [], ◌∷◌, ◌++◌, map, append_assoc, append-nil}
 use mathlib.Core.Path.{◌≡◌, refl, sym, ap, ap₂, ◌∙◌}
@@ -11,9 +12,7 @@ use lib.Dec.{leb, eqb}
 use lib.ListN.{length, take, drop, length-append, length-drop, take-append-drop}
 use lib.Seq.{sets, sets-eq, take_at, drop_at, drop-drop, length-take-le}
 use Rattle.codes.specs.Codes.{chars}
-use Rattle.codes.specs.Refusals.{Answer, first, number_of}
-use Rattle.codes.specs.declared.refusals.Outcome.{Outcome}
-use Rattle.codes.specs.declared.refusals.Outcome.TheVariants.{Done}
+use Rattle.codes.specs.Refusals.{Answer, first, number_of, Outcome}
 use Rattle.codes.proofs.CharLaws.{length-chars}
 use Rattle.codes.proofs.OutcomeLaws.{gives_done}
 use Rattle.codes.proofs.RefusalLaws.{outcome_at, outcome_at_number}
@@ -55,25 +54,25 @@ AllAdded k s out (g ∷ gs) t after = ((answer_of k s g out).no ≡ 0) × AllAdd
 
 -- ---- what a done call passed
 
-is_done : (o : Outcome) → number_of o ≡ 0 → o ≡ Done
-is_done o e = sym (outcome_at_number o) ∙ ap outcome_at e ∙ outcome_at_number Done
+is_done : (o : Outcome) → number_of o ≡ 0 → o ≡ Ok tt
+is_done o e = sym (outcome_at_number o) ∙ ap outcome_at e ∙ outcome_at_number (Ok tt)
 
-pub fitted : (k : ℕ) (s : Writing) (g : Given) (out : List ℕ) → (answer_of k s g out).no ≡ 0 → outcome_of k s g out ≡ Done
+pub fitted : (k : ℕ) (s : Writing) (g : Given) (out : List ℕ) → (answer_of k s g out).no ≡ 0 → outcome_of k s g out ≡ Ok tt
 unfolding add_answer
 fitted k s g out e = is_done (outcome_of k s g out) e
 
-pub fits : (k : ℕ) (s : Writing) (g : Given) (out : List ℕ) → outcome_of k s g out ≡ Done
+pub fits : (k : ℕ) (s : Writing) (g : Given) (out : List ℕ) → outcome_of k s g out ≡ Ok tt
     → Addable k s (length g.name) (length g.bases) g.base_offset g.base_length g.flags g.flag_offset g.flag_length (length out)
 unfolding add_outcome
 fits k s g out e = add_done k s (length g.name) (length g.bases) g.base_offset g.base_length g.flags g.flag_offset g.flag_length (length out) e
 
-record_long : (k : ℕ) (s : Writing) (g : Given) (out : List ℕ) → outcome_of k s g out ≡ Done
+record_long : (k : ℕ) (s : Writing) (g : Given) (out : List ℕ) → outcome_of k s g out ≡ Ok tt
     → length (record_of false (sequence_of g).bases (sequence_of g).flags) ≡ record_size (sequence_of g).flags
 record_long k s g out o =
     length-record false (sequence_of g).bases (sequence_of g).flags
     (length-chars 2 g.bases g.base_offset g.base_length ∙ (fits k s g out o).same ∙ sym (length-chars 1 g.flags g.flag_offset g.flag_length))
 
-pub added-state : (k : ℕ) (s : Writing) (g : Given) (out : List ℕ) → outcome_of k s g out ≡ Done
+pub added-state : (k : ℕ) (s : Writing) (g : Given) (out : List ℕ) → outcome_of k s g out ≡ Ok tt
     → (answer_of k s g out).values ≡ added k s g.name g.bases g.base_offset g.base_length g.flags g.flag_offset g.flag_length out
 unfolding add_answer
 added-state k s g out o = sym (gives_done (outcome_of k s g out) _ s o)
@@ -104,7 +103,7 @@ record Parts (A gap R rest : List ℕ) (s : Writing) (out : List ℕ) : Type 0 w
 
 module _ (k : ℕ) where
   -- one sequence more
-  one : (A gap R rest : List ℕ) (s : Writing) (g : Given) (out : List ℕ) → Parts A gap R rest s out → outcome_of k s g out ≡ Done
+  one : (A gap R rest : List ℕ) (s : Writing) (g : Given) (out : List ℕ) → Parts A gap R rest s out → outcome_of k s g out ≡ Ok tt
       → let e = entry_of false k g.name s.place in
       let r = record_of false (sequence_of g).bases (sequence_of g).flags in
       Parts (A ++ e) (drop (length e) gap) (R ++ r) (drop (length r) rest) (answer_of k s g out).values (after_of k s g out)
@@ -203,7 +202,7 @@ module _ (k : ℕ) where
     left : s.left ≡ t.left + length ss
 
   -- what the later ones end with, from before the first
-  more : (g : Given) (gs : List Given) (A gap R rest : List ℕ) (s : Writing) (out : List ℕ) (t : Writing) (after : List ℕ) → outcome_of k s g out ≡ Done → Parts A gap R rest s out
+  more : (g : Given) (gs : List Given) (A gap R rest : List ℕ) (s : Writing) (out : List ℕ) (t : Writing) (after : List ℕ) → outcome_of k s g out ≡ Ok tt → Parts A gap R rest s out
       → let e = entry_of false k g.name s.place in
       let r = record_of false (sequence_of g).bases (sequence_of g).flags in
       Ended (A ++ e) (R ++ r) (drop (length r) rest) (answer_of k s g out).values (map sequence_of gs) t after → Ended A R rest s (map sequence_of (g ∷ gs)) t after
@@ -259,7 +258,7 @@ module _ (k : ℕ) where
       more g gs A gap R rest s out t after o p
       (all gs (A ++ e) (drop (length e) gap) (R ++ r) (drop (length r) rest) _ _ t after (one A gap R rest s g out p o) b)
     where
-      o : outcome_of k s g out ≡ Done
+      o : outcome_of k s g out ≡ Ok tt
       o = fitted k s g out a
 
       e : List ℕ
@@ -278,7 +277,7 @@ pub record Written (version k n m : ℕ) (out : List ℕ) (ss : List Sequence) (
   pub names : m ≡ names_size ss
 
 module _ (version k n m : ℕ) (out : List ℕ) (started : (start_answer version k n m out).no ≡ 0) where
-  pub start_done : start_outcome version k n m out ≡ Done
+  pub start_done : start_outcome version k n m out ≡ Ok tt
   unfolding start_answer
   start_done = is_done (start_outcome version k n m out) started
 
@@ -340,7 +339,7 @@ written-file version k n m out gs t after a b c = record { bytes = bytes-are; si
     st : s ≡ writing header_size (index_end k n m) (index_end k n m) n
     st = start-state version k n m out a
 
-    finished : first (unfinished t ∷ []) ≡ Done
+    finished : first (unfinished t ∷ []) ≡ Ok tt
     finished = is_done (first (unfinished t ∷ [])) c
 
     tests : (t.left ≡ 0) × (t.entry ≡ t.stop)

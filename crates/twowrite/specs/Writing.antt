@@ -4,8 +4,7 @@ use Rattle.std.proofs.Math.Bool.{false}
 use Rattle.std.specs.Prelude.{◌&&◌, not, List, [], ◌∷◌, ℕ, ◌+◌, ◌-◌, ◌*◌, ◌^◌, leb, ltb, eqb, length}
 use Rattle.std.proofs.lemmas.List.Edits.{sets}
 use Rattle.codes.specs.Codes.{chars}
-use Rattle.codes.specs.Refusals.{Test, Answer, answer, first, if_done, too_long, bad_view, no_room, view_tests}
-use Rattle.codes.specs.declared.refusals.Outcome.{Outcome}
+use Rattle.codes.specs.Refusals.{Test, Answer, answer, first, if_done, too_long, bad_view, no_room, view_tests, Outcome}
 use Rattle.codes.specs.declared.refusals.Refusal.TheVariants.{BadRange}
 use Rattle.twobit.specs.Files.{header_size, header_of, entry_of, entry_size, record_of, record_size, index_end}
 use Rattle.twowrite.specs.declared.answers.Writing.{Writing}

@@ -1,5 +1,5 @@
 // What the calls that write .2bit files answer.
-use codes::refusals::Outcome;
+use codes::refusals::Refusal;
 
 // A file that is written: where the next entry of its index goes and where the index ends, where the next record goes, and how many
 // sequences are left.
@@ -11,9 +11,9 @@ pub struct Writing {
     pub left: usize,
 }
 
-// The next state.
+// The next state; beside a refusal, the state that was given.
 #[derive(Clone, Copy)]
 pub struct Stepped {
     pub state: Writing,
-    pub outcome: Outcome,
+    pub outcome: Result<(), Refusal>,
 }

@@ -1,62 +1,43 @@
 // Writing a .2bit file, one sequence at a time, with the lowest byte of each number first.
 ghost use Rattle.std.specs.Prelude.{◌≡◌};
-ghost use Rattle.twobit.specs.Answers.{sized_says};
-ghost use Rattle.twowrite.specs.Answers.{stepped_says};
+ghost use Rattle.codes.specs.Answers.{says};
 ghost use Rattle.twobit.specs.Files.{offset_size};
+ghost use Rattle.twowrite.specs.Answers.{started_says, stepped_says};
 ghost use Rattle.twowrite.specs.Writing.{start_answer, start_after, size_answer, add_answer, add_after, finish_answer};
 
 use crate::answers::{Stepped, Writing};
 use crate::inner::headers::{start_outcome, write_header};
 use crate::inner::sequences::{add_ready, write_entry, write_record};
-use codes::refusals::{Outcome, Refusal};
+use codes::refusals::Refusal;
 use codes::units::Chars;
+use codes::widths::{Bases, Flags};
 use fields::inner::parts::view_outcome;
 use fields::inner::runs::count_runs;
-use twobit::answers::Sized;
 use twobit::inner::{HEADER, OFFSET, VERSION};
 
 // Writes the header of a file of `count` sequences, whose names have so many bytes together.
-pub fn start(count: usize, names: usize, out: &mut [u8]) -> Stepped
-    ensures answer { stepped_says result ≡ start_answer 0 offset_size count names out.old }
+pub fn start(count: usize, names: usize, out: &mut [u8]) -> Result<Writing, Refusal>
+    ensures answer { started_says result ≡ start_answer 0 offset_size count names out.old }
     ensures bytes { out.new ≡ start_after 0 offset_size count names out.old }
 {
-    match start_outcome(OFFSET, count, names, out.len()) {
-        Outcome::Refused(refusal) => Stepped {
-            state: Writing {
-                entry: 0,
-                stop: 0,
-                place: 0,
-                left: 0,
-            },
-            outcome: Outcome::Refused(refusal),
-        },
-        Outcome::Done => {
-            let stop = HEADER + (count * (OFFSET + 1) + names);
-            write_header(VERSION, count, out);
-            Stepped {
-                state: Writing {
-                    entry: HEADER,
-                    stop,
-                    place: stop,
-                    left: count,
-                },
-                outcome: Outcome::Done,
-            }
-        }
-    }
+    start_outcome(OFFSET, count, names, out.len())?;
+    let stop = HEADER + (count * (OFFSET + 1) + names);
+    write_header(VERSION, count, out);
+    Ok(Writing {
+        entry: HEADER,
+        stop,
+        place: stop,
+        left: count,
+    })
 }
 
 // The bytes of the record of a sequence with these flags.
-pub fn record_size(flags: &[u8], flag_offset: Chars, flag_len: Chars) -> Sized
-    ensures { sized_says result ≡ size_answer flags.now flag_offset.0 flag_len.0 }
+pub fn record_size(flags: &[u8], flag_offset: Chars, flag_len: Chars) -> Result<usize, Refusal>
+    ensures { says result ≡ size_answer flags.now flag_offset.0 flag_len.0 }
 {
-    match view_outcome(1, flags, flag_offset, flag_len) {
-        Outcome::Refused(refusal) => Sized::Refused(refusal),
-        Outcome::Done => {
-            let count = count_runs(flags, flag_offset.count(), flag_len.count());
-            Sized::Is(16 + 8 * count + flag_len.bytes_as_bases().count())
-        }
-    }
+    view_outcome::<Flags>(flags, flag_offset, flag_len)?;
+    let count = count_runs(flags, flag_offset.count(), flag_len.count());
+    Ok(16 + 8 * count + flag_len.bytes_as::<Bases>().count())
 }
 
 // Writes the entry and the record of one sequence more.
@@ -78,16 +59,9 @@ pub fn add(
         add_after offset_size state name.now bases.now base_offset.0 base_len.0
         flags.now flag_offset.0 flag_len.0 out.old }
 {
-    let entry = state.entry;
-    let stop = state.stop;
-    let place = state.place;
-    let left = state.left;
     match add_ready(
         OFFSET,
-        entry,
-        stop,
-        place,
-        left,
+        state,
         name.len(),
         bases,
         base_offset,
@@ -97,18 +71,13 @@ pub fn add(
         flag_len,
         out.len(),
     ) {
-        Sized::Refused(refusal) => Stepped {
-            state: Writing {
-                entry,
-                stop,
-                place,
-                left,
-            },
-            outcome: Outcome::Refused(refusal),
+        Err(refusal) => Stepped {
+            state,
+            outcome: Err(refusal),
         },
-        Sized::Is(count) => {
+        Ok(count) => {
             let n = base_len.count();
-            write_entry(name, OFFSET, place, out, entry);
+            write_entry(name, OFFSET, state.place, out, state.entry);
             write_record(
                 bases,
                 base_offset.count(),
@@ -117,36 +86,36 @@ pub fn add(
                 n,
                 count,
                 out,
-                place,
+                state.place,
             );
             Stepped {
                 state: Writing {
-                    entry: entry + (name.len() + OFFSET + 1),
-                    stop,
-                    place: place + (16 + 8 * count + base_len.bytes_as_bases().count()),
-                    left: left - 1,
+                    entry: state.entry + (name.len() + OFFSET + 1),
+                    stop: state.stop,
+                    place: state.place + (16 + 8 * count + base_len.bytes_as::<Bases>().count()),
+                    left: state.left - 1,
                 },
-                outcome: Outcome::Done,
+                outcome: Ok(()),
             }
         }
     }
 }
 
 // The size of a file whose sequences have all been added.
-pub fn finish(state: Writing) -> Sized
-    ensures { sized_says result ≡ finish_answer state }
+pub fn finish(state: Writing) -> Result<usize, Refusal>
+    ensures { says result ≡ finish_answer state }
 {
     if state.left != 0 {
-        return Sized::Refused(Refusal::BadRange);
+        return Err(Refusal::BadRange);
     }
     if state.entry != state.stop {
-        return Sized::Refused(Refusal::BadRange);
+        return Err(Refusal::BadRange);
     }
     if state.stop < HEADER {
-        return Sized::Refused(Refusal::BadRange);
+        return Err(Refusal::BadRange);
     }
     if state.place < state.stop {
-        return Sized::Refused(Refusal::BadRange);
+        return Err(Refusal::BadRange);
     }
-    Sized::Is(state.place)
+    Ok(state.place)
 }

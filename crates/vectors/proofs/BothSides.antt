@@ -1,18 +1,16 @@
 -- Both sides of each line of the rules: for each number that stands in a definition, the last value that is taken and the first that is not, or what stands on
 -- either side of it; computed of the definitions themselves, one list under one statement. Lengths stand for what is lent.
 -- Assumes nothing.
+use Rattle.std.specs.Prelude.{Ok, Err, Some, None}
 use mathlib.Core.Bool.{true, false}
 use mathlib.Core.List.{List, [], ◌∷◌, ◌++◌}
-use mathlib.Core.Option.{some, none}
 use mathlib.Core.Path.{◌≡◌, refl, ap}
 use Prim.Native.Nat.{ℕ, ◌+◌, ◌-◌, ◌*◌, ◌^◌}
 use lib.ListN.{length, take, drop, replicate}
-use Rattle.codes.specs.Answers.{word_says, word128_says, halves}
+use Rattle.codes.specs.Answers.{says, word128_says, halves}
 use Rattle.codes.specs.Codes.{up, trailing, char_at, tab, chars, lossy, flag, strict}
-use Rattle.codes.specs.Refusals.{answer, first, number_of, too_long, bad_word, bad_letter, bad_capital, bad_code, no_room, view_tests}
+use Rattle.codes.specs.Refusals.{answer, first, number_of, too_long, bad_word, bad_letter, bad_capital, bad_code, no_room, view_tests, Outcome}
 use Rattle.codes.specs.Words.{word, chars_of, pack}
-use Rattle.codes.specs.declared.refusals.Outcome.{Outcome}
-use Rattle.codes.specs.declared.refusals.Outcome.TheVariants.{Done, Refused}
 use Rattle.codes.specs.declared.refusals.Refusal.{Refusal}
 use Rattle.codes.specs.declared.refusals.Refusal.TheVariants.{TooLong, BadStore, BadView, BadRange, BadWord, BadLetter, BadForm, BadStream, NoRoom, Partial}
 use Rattle.codes.specs.Windows.{any_set, window}
@@ -48,19 +46,21 @@ use Rattle.codes.proofs.words.unpack_kmer.Kinds as unpack·kinds
 use Rattle.codes.proofs.words.unpack_kmer.Reads as unpack
 use Rattle.codes.proofs.words.unpack_kmer_u128.Kinds as unpack128·kinds
 use Rattle.codes.proofs.words.unpack_kmer_u128.Reads as unpack128
-use Rattle.codes.proofs.words.revcomp_u64.Kinds as revcomp·kinds
-use Rattle.codes.proofs.words.revcomp_u64.Reads as revcomp
-use Rattle.codes.proofs.words.revcomp_u128.Kinds as revcomp128·kinds
-use Rattle.codes.proofs.words.revcomp_u128.Reads as revcomp128
 use Rattle.codes.proofs.words.rev_u64.Kinds as rev·kinds
 use Rattle.codes.proofs.words.rev_u64.Reads as rev
 use Rattle.codes.proofs.words.rev_u128.Kinds as rev128·kinds
 use Rattle.codes.proofs.words.rev_u128.Reads as rev128
+use Rattle.codes.specs.contracts.widths.Bases as bases
+use Rattle.codes.specs.contracts.widths.BasesWidth.TheImpl as bases·width
+use Rattle.codes.proofs.widths.Bases.TheLaws as bases·laws
+use Rattle.codes.specs.contracts.widths.Flags as flags
+use Rattle.codes.specs.contracts.widths.FlagsWidth.TheImpl as flags·width
+use Rattle.codes.proofs.widths.Flags.TheLaws as flags·laws
 use Rattle.vectors.proofs.ThereAndBack.{Call}
 
 -- a call, or the tests of one, is done with the number `last`, and refused with `over`
 abbrev pub Line : (ℕ → Outcome) → ℕ → ℕ → Refusal → Type 0
-Line f last over r = ◌≡◌ {A = Outcome × Outcome} (f last, f over) (Done, Refused r)
+Line f last over r = ◌≡◌ {A = Outcome × Outcome} (f last, f over) ((Ok tt), Err r)
 
 -- 2^28 bytes of a view, of a store's buffer, of a form, and of the buffers that one is read to
 abbrev pub LongLines : Type 0
@@ -135,8 +135,8 @@ byte_lines = (refl, refl, refl, refl, refl, refl, refl, refl, refl, refl)
 -- an index, the end and the start of a slice, the end of an overwrite, of a cut, of a query, and its start
 abbrev pub RangeLines : Type 0
 RangeLines =
-    (got 2 (replicate 49 255) 0 4 3 ≡ answer Done 3 0)
-    × (got 2 (replicate 49 255) 0 4 4 ≡ answer (Refused BadRange) 0 0)
+    (got 2 (replicate 49 255) 0 4 3 ≡ answer (Ok tt) 3 0)
+    × (got 2 (replicate 49 255) 0 4 4 ≡ answer (Err BadRange) 0 0)
     × Line (λ e. first (slice_tests 2 49 0 4 0 e)) 4 5 BadRange
     × Line (λ s. first (slice_tests 2 49 0 4 s 2)) 2 3 BadRange
     × Line (λ s. outcome 2 49 4 (overwrite s (65 ∷ []))) 3 4 BadRange
@@ -162,7 +162,7 @@ WordLines =
     × Line (λ k. first (bad_word 1 128 k ∷ [])) 128 129 BadWord
     × (halves (2 ^ 64 - 1) ≡ (2 ^ 64 - 1, 0))
     × (halves (2 ^ 64) ≡ (0, 1))
-    × (first (bad_word 0 32 0 ∷ []) ≡ Done)
+    × (first (bad_word 0 32 0 ∷ []) ≡ Ok tt)
     × Line (λ m. unpack_outcome (replicate 49 0) 0 4 (replicate m 0)) 4 3 NoRoom
 
 word-lines : WordLines
@@ -171,16 +171,16 @@ word-lines = (refl, refl, refl, refl, refl, refl, refl, refl, refl, refl, refl, 
 
 -- the ranges of the calls on words, by their contracts
 pub word-ranges :
-    ((c : Call 1 pack·kinds.ps pack·kinds.r pack.Post) → (word_says c.says).no ≡ number_of (first (bad_word 0 32 (length c.given.0.now) ∷ [])))
+    ((c : Call 1 pack·kinds.ps pack·kinds.r pack.Post) → (says c.says).no ≡ number_of (first (bad_word 0 32 (length c.given.0.now) ∷ [])))
     × ((c : Call 1 pack128·kinds.ps pack128·kinds.r pack128.Post) → (word128_says c.says).no ≡ number_of (first (bad_word 0 64 (length c.given.0.now) ∷ [])))
     × ((c : Call 1 unpack·kinds.ps unpack·kinds.r unpack.Post)
     → c.says ≡ first (bad_word 0 32 c.given.1.0.0 ∷ no_room (length c.given.1.1.0.now) c.given.1.0.0 ∷ []))
     × ((c : Call 1 unpack128·kinds.ps unpack128·kinds.r unpack128.Post)
     → c.says ≡ first (bad_word 0 64 c.given.1.1.0.0 ∷ no_room (length c.given.1.1.1.0.now) c.given.1.1.0.0 ∷ []))
-    × ((c : Call 0 revcomp·kinds.ps revcomp·kinds.r revcomp.Post) → (word_says c.says).no ≡ number_of (first (bad_word 1 32 c.given.1.0.0 ∷ [])))
-    × ((c : Call 0 revcomp128·kinds.ps revcomp128·kinds.r revcomp128.Post) → (word128_says c.says).no ≡ number_of (first (bad_word 1 64 c.given.1.1.0.0 ∷ [])))
-    × ((c : Call 0 rev·kinds.ps rev·kinds.r rev.Post) → (word_says c.says).no ≡ number_of (first (bad_word 1 64 c.given.1.0.0 ∷ [])))
-    × ((c : Call 0 rev128·kinds.ps rev128·kinds.r rev128.Post) → (word128_says c.says).no ≡ number_of (first (bad_word 1 128 c.given.1.1.0.0 ∷ [])))
+    × ((c : Call 1 (rev·kinds.ps bases.the_row bases·laws.the_row_laws) (rev·kinds.r bases.the_row bases·laws.the_row_laws) (rev.Post bases.the_row bases·laws.the_row_laws bases·width.ghosts bases·width.dict)) → (says c.says).no ≡ number_of (first (bad_word 1 32 c.given.1.0.0 ∷ [])))
+    × ((c : Call 1 (rev128·kinds.ps bases.the_row bases·laws.the_row_laws) (rev128·kinds.r bases.the_row bases·laws.the_row_laws) (rev128.Post bases.the_row bases·laws.the_row_laws bases·width.ghosts bases·width.dict)) → (word128_says c.says).no ≡ number_of (first (bad_word 1 64 c.given.1.1.0.0 ∷ [])))
+    × ((c : Call 1 (rev·kinds.ps flags.the_row flags·laws.the_row_laws) (rev·kinds.r flags.the_row flags·laws.the_row_laws) (rev.Post flags.the_row flags·laws.the_row_laws flags·width.ghosts flags·width.dict)) → (says c.says).no ≡ number_of (first (bad_word 1 64 c.given.1.0.0 ∷ [])))
+    × ((c : Call 1 (rev128·kinds.ps flags.the_row flags·laws.the_row_laws) (rev128·kinds.r flags.the_row flags·laws.the_row_laws) (rev128.Post flags.the_row flags·laws.the_row_laws flags·width.ghosts flags·width.dict)) → (word128_says c.says).no ≡ number_of (first (bad_word 1 128 c.given.1.1.0.0 ∷ [])))
 word-ranges = (
   λ c. ap (λ (a : _). a.no) c.meets,
   λ c. ap (λ (a : _). a.no) c.meets,
@@ -201,7 +201,7 @@ ViewWordLines =
     × Line (λ n. first (word_tests 1 80 0 n 0 128)) 128 129 BadWord
     × Line (λ n. first (word_tests 2 80 0 n 1 64)) 1 0 BadWord
     × Line (λ n. first (word_tests 2 80 0 n 1 64)) 32 33 BadWord
-    × (first (word_tests 2 80 0 0 0 64) ≡ Done)
+    × (first (word_tests 2 80 0 0 0 64) ≡ Ok tt)
 
 view_word_lines : ViewWordLines
 view_word_lines = (refl, refl, refl, refl, refl, refl, refl)
@@ -314,16 +314,16 @@ FormLines =
     × Line (λ b. first (read_tests (b ∷ 0 ∷ []) 48 48)) 1 2 BadForm
     × Line (λ n. first (bad_tracks n n ∷ [])) (2 ^ 29) (2 ^ 29 + 1) BadRange
     × Line (λ n. first (bad_tracks 3 n ∷ [])) 3 4 BadRange
-    × ((bs : List ℕ) → sound_from bs (some (record { value = 2 ^ 29 + 1; size = 5 })) ≡ false)
-    × ((bs : List ℕ) → sound_from bs (some (record { value = 2 ^ 29; size = 5 })) ≡ right_tracks bs (2 ^ 29) 6)
+    × ((bs : List ℕ) → sound_from bs (Some (record { value = 2 ^ 29 + 1; size = 5 })) ≡ false)
+    × ((bs : List ℕ) → sound_from bs (Some (record { value = 2 ^ 29; size = 5 })) ≡ right_tracks bs (2 ^ 29) 6)
     × (spelt 5 127 ≡ 127 ∷ [])
     × (spelt 5 128 ≡ 128 ∷ 1 ∷ [])
     × (length (spelt 5 (2 ^ 28 - 1)) ≡ 4)
     × (length (spelt 5 (2 ^ 28)) ≡ 5)
     × (length (spelt 5 (2 ^ 29)) ≡ 5)
-    × (spelling 5 (128 ∷ 128 ∷ 128 ∷ 128 ∷ 1 ∷ []) ≡ some (record { value = 2 ^ 28; size = 5 }))
-    × (spelling 5 (128 ∷ 128 ∷ 128 ∷ 128 ∷ 128 ∷ 1 ∷ []) ≡ none)
-    × (spelling 5 (255 ∷ 0 ∷ []) ≡ none)
+    × (spelling 5 (128 ∷ 128 ∷ 128 ∷ 128 ∷ 1 ∷ []) ≡ Some (record { value = 2 ^ 28; size = 5 }))
+    × (spelling 5 (128 ∷ 128 ∷ 128 ∷ 128 ∷ 128 ∷ 1 ∷ []) ≡ None)
+    × (spelling 5 (255 ∷ 0 ∷ []) ≡ None)
     × Line (λ b. first (read_tests (1 ∷ 1 ∷ b ∷ 1 ∷ []) 49 49)) 3 4 BadForm
     × Line (λ b. first (read_tests (1 ∷ 1 ∷ 3 ∷ b ∷ []) 49 49)) 1 2 BadForm
     × Line (λ m. first (write_tests 49 0 4 49 0 4 m)) 4 3 NoRoom
@@ -381,11 +381,11 @@ RecordLines =
     × (all_inside 5 (record { start = 3; size = 3 } ∷ []) ≡ false)
     × (apart (record { start = 0; size = 3 } ∷ record { start = 3; size = 2 } ∷ []) ≡ true)
     × (apart (record { start = 0; size = 4 } ∷ record { start = 3; size = 2 } ∷ []) ≡ false)
-    × (info_answer small 22 ≡ answer Done (1, (0, 0)) (0, (0, 0)))
-    × (info_answer masked 22 ≡ answer Done (1, (0, 1)) (0, (0, 0)))
-    × (info_answer unknown 22 ≡ answer Done (1, (1, 0)) (0, (0, 0)))
-    × (record_answer masked 22 (replicate 49 0) (replicate 49 0) ≡ answer Done (1, 1) (0, 0))
-    × (record_answer unknown 22 (replicate 49 0) (replicate 49 0) ≡ answer Done (1, 0) (0, 0))
+    × (info_answer small 22 ≡ answer (Ok tt) (1, (0, 0)) (0, (0, 0)))
+    × (info_answer masked 22 ≡ answer (Ok tt) (1, (0, 1)) (0, (0, 0)))
+    × (info_answer unknown 22 ≡ answer (Ok tt) (1, (1, 0)) (0, (0, 0)))
+    × (record_answer masked 22 (replicate 49 0) (replicate 49 0) ≡ answer (Ok tt) (1, 1) (0, 0))
+    × (record_answer unknown 22 (replicate 49 0) (replicate 49 0) ≡ answer (Ok tt) (1, 0) (0, 0))
     × (is_two_bit small ≡ true)
     × (is_two_bit (take 38 small) ≡ false)
     × Line (λ m. first (record_tests small 22 m 49)) (2 ^ 28) (2 ^ 28 + 1) TooLong

@@ -1,11 +1,11 @@
 -- A call on a store of flags that carries entries keeps the value of each entry of flag windows whose window lies in the track before and after it, and
 -- holds no position that the call, if it is done, overwrites: as a plain call does.
 -- Assumes nothing.
+use Rattle.std.specs.Prelude.{Ok}
 use mathlib.Core.List.{List}
 use mathlib.Core.Path.{◌≡◌}
 use Prim.Native.Nat.{ℕ, ◌+◌, ◌≤◌, ◌<◌}
 use lib.ListN.{length}
-use Rattle.codes.specs.declared.refusals.Outcome.TheVariants.{Done}
 use Rattle.stores.specs.Changes.{Overwrites}
 use Rattle.stores.specs.Stores.{Call}
 use Rattle.counts.specs.Counts.{counted_outcome}
@@ -19,7 +19,7 @@ pub carried_entries_kept : (s : Counted) (call : Call) {c d k skip skip' : ℕ} 
     → begins (step s call).store d k j' l' ≡ begins s.store c k j l
     → begins s.store c k j l + k ≤ s.store.len → begins s.store c k j l + k ≤ (step s call).store.len
     → ((i : ℕ) → begins s.store c k j l ≤ i → i < begins s.store c k j l + k
-    → Done ≡ counted_outcome (length s.store.bytes) s.store.len (length s.entries) call → Overwrites call i → ⊥)
+    → (Ok tt) ≡ counted_outcome (length s.store.bytes) s.store.len (length s.entries) call → Overwrites call i → ⊥)
     → entry (step s call).store d k skip' out' j' l' ≡ entry s.store c k skip out j l
 carried_entries_kept s call {c} {k} {j} {l} e f same a b h =
     entries_same e f same (λ lo hi. carried_windows_kept s call (begins s.store c k j l) k lo hi a b h)

@@ -1,6 +1,11 @@
 -- There and back, of the calls: whatever satisfies their contracts. Letters that were packed to a word or pushed to a store of bases are unpacked as
 -- capitals with T for U; a view reversed twice has its characters again; and the word of pushed letters is the word that they pack to.
 -- Assumes nothing.
+use denote.Param.Laws.{Laws}
+use denote.RattleType.{RattleType}
+use mir.Syntax.{Dict}
+use Rattle.codes.specs.declared.widths.Width.{Ghosts}
+use Rattle.std.specs.Prelude.{Ok}
 use borrow.Fn.Kinds.{Out, ParamKind, ResultKind, Dens, res_t, ended_of}
 use contract.Lifetimes.{Lfts}
 use denote.Triple.Clauses.{AtExit}
@@ -16,18 +21,20 @@ use lib.Bits.{bit_xor}
 use lib.Dec.{leb, eqb}
 use lib.ListN.{length, drop, replicate, length-map, length-append, length-drop, length-replicate}
 use lib.Seq.{drop_at}
-use Rattle.codes.specs.Answers.{word_says, word128_says, halves}
+use Rattle.codes.specs.Answers.{says, word128_says, halves}
 use Rattle.codes.specs.Codes.{IsWidth, per, up, trailing, chars, code, complement, letter, lossy, pick}
-use Rattle.codes.specs.Refusals.{answer, first, if_done, number_of, bad_word, no_room, view_tests}
+use Rattle.codes.specs.Refusals.{answer, first, if_done, number_of, bad_word, no_room, view_tests, Outcome}
 use Rattle.codes.specs.Words.{word, chars_of, packed}
-use Rattle.codes.specs.declared.refusals.Outcome.{Outcome}
-use Rattle.codes.specs.declared.refusals.Outcome.TheVariants.{Done}
-use Rattle.codes.proofs.AnswerLaws.{word_told, word128_told}
+use Rattle.codes.specs.contracts.widths.Bases.{the_row}
+use Rattle.codes.specs.contracts.widths.BasesWidth.TheImpl.{ghosts, dict}
+use Rattle.codes.proofs.widths.Bases.TheLaws.{the_row_laws}
+use Rattle.codes.proofs.AnswerLaws.{told, word128_told}
 use Rattle.codes.proofs.CharLaws.{length-chars, chars-append, chars-fit}
 use Rattle.codes.proofs.CodeLaws.{lossy-lt}
 use Rattle.codes.proofs.OutcomeLaws.{first_done, room_right}
 use Rattle.codes.proofs.RefusalLaws.{ltb-zero, outcome_at, outcome_at_number, says-once}
-use Rattle.codes.proofs.WidthLaws.{width_1, width_2, up-hi}
+use Rattle.codes.specs.Widths.{width_1, width_2}
+use Rattle.codes.proofs.WidthLaws.{up-hi}
 use Rattle.codes.proofs.WordLaws.{Below, Below-map, chars_of-word}
 use Rattle.fasta.proofs.HoldLaws.{push_length}
 use Rattle.fasta.proofs.PushLaws.{push_chars}
@@ -45,18 +52,16 @@ use Rattle.codes.proofs.words.unpack_kmer.Kinds as unpack·kinds
 use Rattle.codes.proofs.words.unpack_kmer.Reads as unpack
 use Rattle.codes.proofs.words.unpack_kmer_u128.Kinds as unpack128·kinds
 use Rattle.codes.proofs.words.unpack_kmer_u128.Reads as unpack128
-use Rattle.stores.proofs.bases.push_ascii.Kinds as push·kinds
-use Rattle.stores.proofs.bases.push_ascii.Reads as push
-use Rattle.views.proofs.bases.as_u64.Kinds as as-u64·kinds
-use Rattle.views.proofs.bases.as_u64.Reads as as-u64
-use Rattle.views.proofs.bases.as_u128.Kinds as as-u128·kinds
-use Rattle.views.proofs.bases.as_u128.Reads as as-u128
-use Rattle.writes.proofs.bases.unpack.Kinds as view·kinds
-use Rattle.writes.proofs.bases.unpack.Reads as view
-use Rattle.writes.proofs.bases.to_revcomp.Kinds as bases-flip·kinds
-use Rattle.writes.proofs.bases.to_revcomp.Reads as bases-flip
-use Rattle.writes.proofs.flags.to_revcomp.Kinds as flags-flip·kinds
-use Rattle.writes.proofs.flags.to_revcomp.Reads as flags-flip
+use Rattle.stores.proofs.calls.push_ascii.Kinds as push·kinds
+use Rattle.stores.proofs.calls.push_ascii.Reads as push
+use Rattle.views.proofs.calls.as_u64.Kinds as as-u64·kinds
+use Rattle.views.proofs.calls.as_u64.Reads as as-u64
+use Rattle.views.proofs.calls.as_u128.Kinds as as-u128·kinds
+use Rattle.views.proofs.calls.as_u128.Reads as as-u128
+use Rattle.writes.proofs.calls.unpack.Kinds as view·kinds
+use Rattle.writes.proofs.calls.unpack.Reads as view
+use Rattle.writes.proofs.calls.to_revcomp.Kinds as flip·kinds
+use Rattle.writes.proofs.calls.to_revcomp.Reads as flip
 
 -- a call, by its contract as the checker reads it from the source: what it is given, what it answers, and what stands at exit
 pub record Call (n : ℕ) (ps : List (ParamKind n)) (r : ResultKind n) (Q : Out n ps r) : Type 0 where
@@ -106,15 +111,15 @@ codes_back (x ∷ ls) h = ap₂ (λ (c : ℕ) (cs : List ℕ). c ∷ cs) (letter
 
 -- unpacking is done, and leaves the capitals of letters at the front of a buffer; its later bytes stay
 pub record Back (o : Outcome) (ls out out' : List ℕ) : Type 0 where
-  pub done : o ≡ Done
+  pub done : o ≡ Ok tt
   pub capitals : out' ≡ map capital ls ++ drop (length ls) out
 
 -- words of so many letters, at most
 module _ (most : ℕ) (ls : List ℕ) (fits : length ls ≤ most) where
-  packs : first (bad_word 0 most (length ls) ∷ []) ≡ Done
+  packs : first (bad_word 0 most (length ls) ∷ []) ≡ Ok tt
   packs = rw (ltb-zero (length ls), le-ltb most (length ls) fits)
 
-  unpacks : (out : List ℕ) → length ls ≤ length out → first (bad_word 0 most (length ls) ∷ no_room (length out) (length ls) ∷ []) ≡ Done
+  unpacks : (out : List ℕ) → length ls ≤ length out → first (bad_word 0 most (length ls) ∷ no_room (length out) (length ls) ∷ []) ≡ Ok tt
   unpacks out room = rw (ltb-zero (length ls), le-ltb most (length ls) fits, le-ltb (length out) (length ls) room)
 
   word_back : Letters ls → map letter (chars_of 2 (length ls) (word 2 (map lossy ls))) ≡ map capital ls
@@ -126,7 +131,7 @@ module _ (most : ℕ) (ls : List ℕ) (fits : length ls ≤ most) where
   kmer : Letters ls → (out : List ℕ) → length ls ≤ length out → (o : Outcome) (out' : List ℕ) (x k : ℕ) → x ≡ word 2 (map lossy ls) → k ≡ length ls
       → o ≡ first (bad_word 0 most k ∷ no_room (length out) k ∷ []) → out' ≡ if_done o (map letter (chars_of 2 k x) ++ drop k out) out → Back o ls out out'
   kmer t out room o out' x k ex ek eo e =
-      let d : o ≡ Done = eo ∙ ap (λ (j : ℕ). first (bad_word 0 most j ∷ no_room (length out) j ∷ [])) ek ∙ unpacks out room in
+      let d : o ≡ Ok tt = eo ∙ ap (λ (j : ℕ). first (bad_word 0 most j ∷ no_room (length out) j ∷ [])) ek ∙ unpacks out room in
       record {
         done = d;
         capitals = e ∙ (λ i. if_done (d i) (map letter (chars_of 2 (ek i) (ex i)) ++ drop (ek i) out) out) ∙ ap (λ (l : List ℕ). l ++ drop (length ls) out) (word_back t);
@@ -135,11 +140,11 @@ module _ (most : ℕ) (ls : List ℕ) (fits : length ls ≤ most) where
 -- up to 32 of the ten letters, packed to a word and unpacked
 pub kmer_back : (p : Call 1 pack·kinds.ps pack·kinds.r pack.Post) (u : Call 1 unpack·kinds.ps unpack·kinds.r unpack.Post)
     → Letters p.given.0.now → length p.given.0.now ≤ 32 → length p.given.0.now ≤ length u.given.1.1.0.now
-    → u.given.0 ≡ (word_says p.says).values → u.given.1.0.0 ≡ length p.given.0.now
-    → ((word_says p.says).no ≡ 0) × Back u.says p.given.0.now u.given.1.1.0.now u.left.1.1.0.now
+    → u.given.0 ≡ (says p.says).values → u.given.1.0.0 ≡ length p.given.0.now
+    → ((says p.says).no ≡ 0) × Back u.says p.given.0.now u.given.1.1.0.now u.left.1.1.0.now
 kmer_back p u t fits room ex ek =
     let ls : List ℕ = p.given.0.now in
-    let says : word_says p.says ≡ answer Done (word 2 (map lossy ls)) 0 = p.meets ∙ ap (λ (o : Outcome). answer o (word 2 (map lossy ls)) 0) (packs 32 ls fits) in (
+    let says : says p.says ≡ answer (Ok tt) (word 2 (map lossy ls)) 0 = p.meets ∙ ap (λ (o : Outcome). answer o (word 2 (map lossy ls)) 0) (packs 32 ls fits) in (
       ap (λ (a : _). a.no) says,
       kmer 32 ls fits t u.given.1.1.0.now room u.says u.left.1.1.0.now u.given.0 u.given.1.0.0 (ex ∙ ap (λ (a : _). a.values) says) ek u.meets.0 u.meets.1,
     )
@@ -152,20 +157,20 @@ pub kmer_128_back : (p : Call 1 pack128·kinds.ps pack128·kinds.r pack128.Post)
 kmer_128_back p u t fits room ex ek =
     let ls : List ℕ = p.given.0.now in
     let x : ℕ = word 2 (map lossy ls) in
-    let says : word128_says p.says ≡ answer Done (halves x) (halves 0) = p.meets ∙ ap (λ (o : Outcome). answer o (halves x) (halves 0)) (packs 64 ls fits) in
+    let says : word128_says p.says ≡ answer (Ok tt) (halves x) (halves 0) = p.meets ∙ ap (λ (o : Outcome). answer o (halves x) (halves 0)) (packs 64 ls fits) in
     let both : u.given.1.0 * 2 ^ 64 + u.given.0 ≡ x = ap (λ (h : ℕ × ℕ). h.1 * 2 ^ 64 + h.0) (ex ∙ ap (λ (a : _). a.values) says) ∙ div-add-mod' x (2 ^ 64) in (
       ap (λ (a : _). a.no) says,
       kmer 64 ls fits t u.given.1.1.1.0.now room u.says u.left.1.1.1.0.now (u.given.1.0 * 2 ^ 64 + u.given.0) u.given.1.1.0.0 both ek u.meets.0 u.meets.1,
     )
 
 -- a view with 48 bytes behind it is accepted
-accepted_at : {w : ℕ} → IsWidth w → (bs : List ℕ) (o n : ℕ) → length bs ≤ 2 ^ 28 → up w (o + n) + trailing ≤ length bs → first (view_tests w (length bs) o n) ≡ Done
+accepted_at : {w : ℕ} → IsWidth w → (bs : List ℕ) (o n : ℕ) → length bs ≤ 2 ^ 28 → up w (o + n) + trailing ≤ length bs → first (view_tests w (length bs) o n) ≡ Ok tt
 accepted_at {w} W bs o n small room =
     let fits : o + n + trailing * per w ≤ length bs * per w = omega (arith, up-hi W (o + n), mul-le-mul_right (per w) room, add-mul (up w (o + n)) trailing (per w)) in
     rw (le-ltb (2 ^ 28) (length bs) small, le-ltb (length bs * per w) (o + n + trailing * per w) fits)
 
 -- letters that were pushed to a store of bases of a length
-module _ (bs : List ℕ) (len : ℕ) (ls : List ℕ) (done : outcome 2 (length bs) len (push_ascii ls) ≡ Done) where
+module _ (bs : List ℕ) (len : ℕ) (ls : List ℕ) (done : outcome 2 (length bs) len (push_ascii ls) ≡ Ok tt) where
   abbrev bs' : List ℕ
   bs' = after 2 bs len (push_ascii ls)
 
@@ -189,7 +194,7 @@ module _ (bs : List ℕ) (len : ℕ) (ls : List ℕ) (done : outcome 2 (length b
       ∙ drop_at (chars 2 bs 0 len) (map lossy ls) len (length-chars 2 bs 0 len)
 
   -- and the view of them is accepted
-  accepted : first (view_tests 2 (length bs') len (length ls)) ≡ Done
+  accepted : first (view_tests 2 (length bs') len (length ls)) ≡ Ok tt
   accepted =
       let n : length bs' ≡ length bs = push_length 2 bs len ls in
       accepted_at width_2 bs' len (length ls) (omega (arith, small, n)) (omega (arith, room, n))
@@ -198,7 +203,7 @@ module _ (bs : List ℕ) (len : ℕ) (ls : List ℕ) (done : outcome 2 (length b
       → out' ≡ if_done r (unpacked_over bs' len (length ls) out) out → Back r ls out out'
   unfolding unpack_outcome unpacked_over
   unpacked t out enough r out' er e =
-      let d : r ≡ Done = er ∙ first_done (view_tests 2 (length bs') len (length ls)) (no_room (length out) (length ls) ∷ []) accepted ∙ sym (room_right (length out) (length ls) enough) in
+      let d : r ≡ Ok tt = er ∙ first_done (view_tests 2 (length bs') len (length ls)) (no_room (length out) (length ls) ∷ []) accepted ∙ sym (room_right (length out) (length ls) enough) in
       record {
         done = d;
         capitals = e ∙ (λ i. if_done (d i) (map letter (stretch i) ++ drop (length ls) out) out) ∙ ap (λ (l : List ℕ). l ++ drop (length ls) out) (codes_back ls t);
@@ -209,7 +214,7 @@ module _ (bs : List ℕ) (len : ℕ) (ls : List ℕ) (done : outcome 2 (length b
   judged bits = first_done (view_tests 2 (length bs') len (length ls)) (bad_word 0 (bits / 2) (length ls) ∷ []) accepted
 
 -- a push that is done, and the stretch that it answers
-module _ (p : Call 2 push·kinds.ps push·kinds.r push.Post) (d : (pushed_says p.says).no ≡ 0) where
+module _ (p : Call 3 (push·kinds.ps the_row the_row_laws) (push·kinds.r the_row the_row_laws) (push.Post the_row the_row_laws ghosts dict)) (d : (pushed_says p.says).no ≡ 0) where
   abbrev store : List ℕ
   store = p.given.0.now
 
@@ -219,12 +224,12 @@ module _ (p : Call 2 push·kinds.ps push·kinds.r push.Post) (d : (pushed_says p
   abbrev letters : List ℕ
   letters = p.given.1.1.0.now
 
-  push_done : outcome 2 (length store) at (push_ascii letters) ≡ Done
+  push_done : outcome 2 (length store) at (push_ascii letters) ≡ Ok tt
   unfolding answered
   push_done =
       let o : Outcome = outcome 2 (length store) at (push_ascii letters) in
       let zero : number_of o ≡ 0 = sym (ap (λ (a : _). a.no) p.meets.0) ∙ d in
-      sym (outcome_at_number o) ∙ ap outcome_at zero ∙ outcome_at_number Done
+      sym (outcome_at_number o) ∙ ap outcome_at zero ∙ outcome_at_number (Ok tt)
 
   push_span : (pushed_says p.says).values ≡ (at, at + length letters, at + length letters)
   unfolding answered
@@ -253,18 +258,18 @@ module _ (p : Call 2 push·kinds.ps push·kinds.r push.Post) (d : (pushed_says p
       (u.meets.1 ∙ stretch_is (λ bs o n. if_done u.says (unpacked_over bs o n out) out) u.given.0.now u.given.1.0.0 u.given.1.1.0.0 v)
 
   -- and the word of what was pushed, of any letters, is the word that they pack to; over 32 of them, both are refused alike
-  pub word-of_pushed : (x : Call 1 as-u64·kinds.ps as-u64·kinds.r as-u64.Post) (k : Call 1 pack·kinds.ps pack·kinds.r pack.Post)
+  pub word-of_pushed : (x : Call 2 (as-u64·kinds.ps the_row the_row_laws) (as-u64·kinds.r the_row the_row_laws) (as-u64.Post the_row the_row_laws ghosts dict)) (k : Call 1 pack·kinds.ps pack·kinds.r pack.Post)
       → Stretch x.given.0.now x.given.1.0.0 x.given.1.1.0.0 → k.given.0.now ≡ letters → x.says ≡ k.says
   unfolding as_u64
   word-of_pushed x k v same =
-      says-once word_told x.says k.says
+      says-once told x.says k.says
       (x.meets
       ∙ stretch_is (as_u64 2) x.given.0.now x.given.1.0.0 x.given.1.1.0.0 v
       ∙ (λ i. answer (judged store at letters push_done 64 i) (word 2 (stretch store at letters push_done i)) 0)
       ∙ sym (k.meets ∙ ap (λ (ls : List ℕ). answer (first (bad_word 0 32 (length ls) ∷ [])) (word 2 (map lossy ls)) 0) same))
 
   -- over 64, those of two halves
-  pub word-128_of_pushed : (x : Call 1 as-u128·kinds.ps as-u128·kinds.r as-u128.Post) (k : Call 1 pack128·kinds.ps pack128·kinds.r pack128.Post)
+  pub word-128_of_pushed : (x : Call 2 (as-u128·kinds.ps the_row the_row_laws) (as-u128·kinds.r the_row the_row_laws) (as-u128.Post the_row the_row_laws ghosts dict)) (k : Call 1 pack128·kinds.ps pack128·kinds.r pack128.Post)
       → Stretch x.given.0.now x.given.1.0.0 x.given.1.1.0.0 → k.given.0.now ≡ letters → x.says ≡ k.says
   unfolding as_u128
   word-128_of_pushed x k v same =
@@ -320,9 +325,9 @@ Reverses w p =
 -- characters are there again
 abbrev pub Twice : ℕ → Reversal → Reversal → Type 0
 Twice w p q =
-    first (view_tests w (length p.bytes) p.offset p.count) ≡ Done → up w p.count + trailing ≤ length p.out → length p.out ≤ 2 ^ 28
+    first (view_tests w (length p.bytes) p.offset p.count) ≡ Ok tt → up w p.count + trailing ≤ length p.out → length p.out ≤ 2 ^ 28
     → q.bytes ≡ p.left → q.offset ≡ 0 → q.count ≡ p.count → up w p.count + trailing ≤ length q.out
-    → (p.outcome ≡ Done) × ((q.outcome ≡ Done) × (chars w q.left 0 p.count ≡ chars w p.bytes p.offset p.count))
+    → (p.outcome ≡ Ok tt) × ((q.outcome ≡ Ok tt) × (chars w q.left 0 p.count ≡ chars w p.bytes p.offset p.count))
 
 flipped-length : {w : ℕ} → IsWidth w → (bs : List ℕ) (o n : ℕ) (out : List ℕ) → up w n + trailing ≤ length out → length (flipped_over w bs o n out) ≡ length out
 unfolding flipped_over
@@ -331,7 +336,7 @@ flipped-length {w} W bs o n out h =
     let b = length-append (replicate trailing 0) (drop (up w n + trailing) out) in
     omega (arith, a, b, packed-long W bs o n, length-replicate {A = ℕ} trailing 0, length-drop (up w n + trailing) out)
 
-flip_done : (w : ℕ) (bs : List ℕ) (o n : ℕ) (out : List ℕ) → first (view_tests w (length bs) o n) ≡ Done → up w n + trailing ≤ length out → flip_outcome w bs o n out ≡ Done
+flip_done : (w : ℕ) (bs : List ℕ) (o n : ℕ) (out : List ℕ) → first (view_tests w (length bs) o n) ≡ Ok tt → up w n + trailing ≤ length out → flip_outcome w bs o n out ≡ Ok tt
 unfolding flip_outcome
 flip_done w bs o n out sound h =
     first_done (view_tests w (length bs) o n) (no_room (length out) (up w n + trailing) ∷ []) sound ∙ sym (room_right (length out) (up w n + trailing) h)
@@ -341,39 +346,26 @@ twice {w} W p q f g sound h l eb eo ec h' =
     let n : ℕ = p.count in
     let mid : List ℕ = flipped_over w p.bytes p.offset n p.out in
     let long : length mid ≡ length p.out = flipped-length W p.bytes p.offset n p.out h in
-    let d : p.outcome ≡ Done = f.0 ∙ flip_done w p.bytes p.offset n p.out sound h in
+    let d : p.outcome ≡ Ok tt = f.0 ∙ flip_done w p.bytes p.offset n p.out sound h in
     let left : q.bytes ≡ mid = eb ∙ f.1 ∙ ap (λ (o : Outcome). if_done o mid p.out) d in
-    let again : first (view_tests w (length mid) 0 n) ≡ Done = accepted_at W mid 0 n (omega (arith, long)) (rw zero-add (omega (arith, long))) in
-    let e : q.outcome ≡ Done = g.0 ∙ (λ i. flip_outcome w (left i) (eo i) (ec i) q.out) ∙ flip_done w mid 0 n q.out again h' in
+    let again : first (view_tests w (length mid) 0 n) ≡ Ok tt = accepted_at W mid 0 n (omega (arith, long)) (rw zero-add (omega (arith, long))) in
+    let e : q.outcome ≡ Ok tt = g.0 ∙ (λ i. flip_outcome w (left i) (eo i) (ec i) q.out) ∙ flip_done w mid 0 n q.out again h' in
     let last : q.left ≡ flipped_over w mid 0 n q.out = g.1 ∙ (λ i. if_done (e i) (flipped_over w (left i) (eo i) (ec i) q.out) q.out) in
     let back : flipped w (chars w mid 0 n) ≡ chars w p.bytes p.offset n
     = ap (flipped w) (flipped-chars W p.bytes p.offset n p.out) ∙ flipped-twice w (chars w p.bytes p.offset n) (chars-fit w p.bytes p.offset n) in
     (d, (e, ap (λ (bs : List ℕ). chars w bs 0 n) last ∙ flipped-chars W mid 0 n q.out ∙ back))
 
--- of bases
-abbrev pub bases_flip : Call 2 bases-flip·kinds.ps bases-flip·kinds.r bases-flip.Post → Reversal
-bases_flip c = record {
-  bytes = c.given.0.now;
-  offset = c.given.1.0.0;
-  count = c.given.1.1.0.0;
-  out = c.given.1.1.1.0.now;
-  left = c.left.1.1.1.0.now;
-  outcome = c.says;
-}
+-- at every width W
+module _ (T : RattleType) (L : Laws T) (W : Ghosts T.Denot) (D : Dict) where
+  abbrev pub revcomp : Call 3 (flip·kinds.ps T L) (flip·kinds.r T L) (flip.Post T L W D) → Reversal
+  revcomp c = record {
+    bytes = c.given.0.now;
+    offset = c.given.1.0.0;
+    count = c.given.1.1.0.0;
+    out = c.given.1.1.1.0.now;
+    left = c.left.1.1.1.0.now;
+    outcome = c.says;
+  }
 
-pub bases_revcomp_twice : (p q : Call 2 bases-flip·kinds.ps bases-flip·kinds.r bases-flip.Post) → Twice 2 (bases_flip p) (bases_flip q)
-bases_revcomp_twice p q = twice width_2 (bases_flip p) (bases_flip q) p.meets q.meets
-
--- and of flags
-abbrev pub flags_flip : Call 2 flags-flip·kinds.ps flags-flip·kinds.r flags-flip.Post → Reversal
-flags_flip c = record {
-  bytes = c.given.0.now;
-  offset = c.given.1.0.0;
-  count = c.given.1.1.0.0;
-  out = c.given.1.1.1.0.now;
-  left = c.left.1.1.1.0.now;
-  outcome = c.says;
-}
-
-pub flags_revcomp_twice : (p q : Call 2 flags-flip·kinds.ps flags-flip·kinds.r flags-flip.Post) → Twice 1 (flags_flip p) (flags_flip q)
-flags_revcomp_twice p q = twice width_1 (flags_flip p) (flags_flip q) p.meets q.meets
+  pub revcomp_twice : (p q : Call 3 (flip·kinds.ps T L) (flip·kinds.r T L) (flip.Post T L W D)) → Twice W.BITS (revcomp p) (revcomp q)
+  revcomp_twice p q = twice W.divides (revcomp p) (revcomp q) p.meets q.meets

@@ -1,27 +1,18 @@
 // Lines of numbers from standard input, and the three buffers that cases speak of.
-ghost use Rattle.std.specs.Prelude.{◌≤◌};
-
 use crate::{stores_cases, streams_cases};
 use cases::inner::{codes_cases, order_cases, print, views_cases};
+use std::cmp::min;
 use std::io;
 use std::io::{Read, Write};
 
-// How far a line has been read, and how much of each buffer is in use.
+// How far a line has been read, the number that is open, if any, and how much of each buffer is in use.
 #[derive(Clone, Copy)]
 struct Scan {
     count: usize,
-    value: u64,
-    open: bool,
+    open: Option<u64>,
     first: usize,
     second: usize,
     out: usize,
-}
-
-// At most as many as there are.
-fn at_most(n: usize, most: usize) -> usize
-    ensures { (result ≤ most) × (result ≤ n) }
-{
-    if most < n { most } else { n }
 }
 
 // What a proved loop reads has to end, and nothing says that the input does: the turns are counted, up to a number that no run uses up.
@@ -60,8 +51,8 @@ fn feed<W: Write>(
     out: &mut [u8; 512],
 ) -> io::Result<Scan> {
     let mut scan = from;
-    for i in 0..chunk.len() {
-        scan = take(to, scan, chunk[i], line, first, second, out)?;
+    for b in chunk {
+        scan = take(to, scan, *b, line, first, second, out)?;
     }
     Ok(scan)
 }
@@ -90,31 +81,23 @@ fn take<W: Write>(
 
 // Numbers stay below 2^32.
 fn digit(scan: Scan, d: u8) -> Scan {
-    let value = scan.value % 0x1_0000_0000 * 10;
+    let value = scan.open.unwrap_or(0) % 0x1_0000_0000 * 10;
     Scan {
-        count: scan.count,
-        value: value + d as u64,
-        open: true,
-        first: scan.first,
-        second: scan.second,
-        out: scan.out,
+        open: Some(value + d as u64),
+        ..scan
     }
 }
 
 // The number that was open, if any, put into the line.
 fn keep(scan: Scan, line: &mut [u64; 512]) -> Scan {
     let at = scan.count;
-    let open = scan.open;
-    if open {
+    if let Some(value) = scan.open {
         if at < 512 {
-            line[at] = scan.value;
+            line[at] = value;
             return Scan {
                 count: at + 1,
-                value: 0,
-                open: false,
-                first: scan.first,
-                second: scan.second,
-                out: scan.out,
+                open: None,
+                ..scan
             };
         }
     }
@@ -148,8 +131,7 @@ fn run<W: Write>(
 fn start(first: usize, second: usize, out: usize) -> Scan {
     Scan {
         count: 0,
-        value: 0,
-        open: false,
+        open: None,
         first,
         second,
         out,
@@ -166,9 +148,9 @@ fn replay<'a, W: Write>(
     second: &'a [u8],
     out: &mut [u8],
 ) -> io::Result<()> {
-    let a = at_most(scan.first, first.len());
-    let b = at_most(scan.second, second.len());
-    let o = at_most(scan.out, out.len());
+    let a = min(scan.first, first.len());
+    let b = min(scan.second, second.len());
+    let o = min(scan.out, out.len());
     run_case(to, call, line, &first[..a], &second[..b], &mut out[..o])?;
     print::end(to)
 }
@@ -196,17 +178,15 @@ fn run_case<'a, W: Write>(
 
 // The line's numbers behind its first.
 fn fill(line: &[u64; 512], n: usize, buffer: &mut [u8; 512]) -> usize {
-    let last = at_most(n, 512);
-    for i in 1..last {
-        buffer[i - 1] = (line[i] % 256) as u8;
+    let size = min(n.saturating_sub(1), 511);
+    for (byte, number) in buffer.iter_mut().zip(&line[1..size + 1]) {
+        *byte = (*number % 256) as u8;
     }
-    if last == 0 { 0 } else { last - 1 }
+    size
 }
 
 fn repeat(n: u64, b: u64, buffer: &mut [u8; 512]) -> usize {
-    let size = at_most(n as usize, 512);
-    for i in 0..size {
-        buffer[i] = (b % 256) as u8;
-    }
+    let size = min(n as usize, 512);
+    buffer[..size].fill((b % 256) as u8);
     size
 }

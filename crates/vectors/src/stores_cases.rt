@@ -2,9 +2,10 @@
 use cases::inner::numbers::chars;
 use cases::inner::print;
 use codes::units::Chars;
+use codes::widths::{Bases, Flags, Width};
 use std::io;
 use std::io::Write;
-use stores::{bases, flags};
+use stores::calls;
 
 pub(crate) fn run<W: Write>(
     to: &mut W,
@@ -17,16 +18,15 @@ pub(crate) fn run<W: Write>(
     let x = chars(line, 3);
     let y = chars(line, 4);
     if line[1] == 2 {
-        of_bases(to, call, text, buffer, len, x, y)?;
-        print::bytes(to, buffer)
+        at::<Bases, _>(to, call, text, buffer, len, x, y)?;
     } else {
-        of_flags(to, call, text, buffer, len, x, y)?;
-        print::bytes(to, buffer)
+        at::<Flags, _>(to, call, text, buffer, len, x, y)?;
     }
+    print::bytes(to, buffer)
 }
 
-fn of_bases<W: Write>(
-    to: &mut W,
+fn at<W: Width, T: Write>(
+    to: &mut T,
     call: u64,
     text: &[u8],
     buffer: &mut [u8],
@@ -35,30 +35,11 @@ fn of_bases<W: Write>(
     y: Chars,
 ) -> io::Result<()> {
     match call {
-        50 => print::kept(to, bases::clear(buffer)),
-        51 => print::pushed(to, bases::push_ascii(buffer, len, text)),
-        52 => print::pushed(to, bases::push_seq(buffer, len, text, x, y)),
-        53 => print::kept(to, bases::overwrite(buffer, len, x, text)),
-        54 => print::kept(to, bases::cut(buffer, len, x)),
-        _ => Ok(())
-    }
-}
-
-fn of_flags<W: Write>(
-    to: &mut W,
-    call: u64,
-    text: &[u8],
-    buffer: &mut [u8],
-    len: Chars,
-    x: Chars,
-    y: Chars,
-) -> io::Result<()> {
-    match call {
-        50 => print::kept(to, flags::clear(buffer)),
-        51 => print::pushed(to, flags::push_ascii(buffer, len, text)),
-        52 => print::pushed(to, flags::push_seq(buffer, len, text, x, y)),
-        53 => print::kept(to, flags::overwrite(buffer, len, x, text)),
-        54 => print::kept(to, flags::cut(buffer, len, x)),
-        _ => Ok(())
+        50 => print::kept(to, calls::clear::<W>(buffer)),
+        51 => print::pushed(to, calls::push_ascii::<W>(buffer, len, text)),
+        52 => print::pushed(to, calls::push_seq::<W>(buffer, len, text, x, y)),
+        53 => print::kept(to, calls::overwrite::<W>(buffer, len, x, text)),
+        54 => print::kept(to, calls::cut::<W>(buffer, len, x)),
+        _ => Ok(()),
     }
 }

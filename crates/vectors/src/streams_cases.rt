@@ -1,10 +1,12 @@
 // Lane streams over a view of the first buffer, at width 2 and, for any other number, at width 1; flag windows.
 use cases::inner::numbers::{chars, number};
 use cases::inner::print;
+use codes::refusals::Refusal;
+use codes::widths::{Bases, Flags};
 use std::io;
 use std::io::Write;
 use streams::answers::Filled;
-use streams::{bases, flags};
+use streams::calls;
 
 pub(crate) fn run<W: Write>(
     to: &mut W,
@@ -22,10 +24,16 @@ pub(crate) fn run<W: Write>(
 }
 
 // The entries that a case shows: those of at most 64 steps.
-fn written(f: Filled) -> usize {
-    match f {
-        Filled::Is { steps, padding: _ } => { if steps < 64 { 8 * steps } else { 512 } }
-        Filled::Refused(_) => 0,
+fn written(answer: Result<Filled, Refusal>) -> usize {
+    match answer {
+        Ok(filled) => {
+            if filled.steps < 64 {
+                8 * filled.steps
+            } else {
+                512
+            }
+        }
+        Err(_) => 0,
     }
 }
 
@@ -36,15 +44,15 @@ fn plain<W: Write>(to: &mut W, line: &[u64; 512], bytes: &[u8]) -> io::Result<()
     print::entries(to, &out, written(filled))
 }
 
-fn fill(line: &[u64; 512], bytes: &[u8], out: &mut [u32; 512]) -> Filled {
+fn fill(line: &[u64; 512], bytes: &[u8], out: &mut [u32; 512]) -> Result<Filled, Refusal> {
     let o = chars(line, 2);
     let n = chars(line, 3);
     let c = chars(line, 4);
     let f = number(line, 5);
     if line[1] == 2 {
-        bases::fill(bytes, o, n, c, f, out)
+        calls::fill::<Bases>(bytes, o, n, c, f, out)
     } else {
-        flags::fill(bytes, o, n, c, f, out)
+        calls::fill::<Flags>(bytes, o, n, c, f, out)
     }
 }
 
@@ -63,16 +71,16 @@ fn fill_delayed(
     bytes: &[u8],
     out: &mut [u32; 512],
     late: &mut [u32; 512],
-) -> Filled {
+) -> Result<Filled, Refusal> {
     let o = chars(line, 2);
     let n = chars(line, 3);
     let c = chars(line, 4);
     let f = number(line, 5);
     let d = chars(line, 6);
     if line[1] == 2 {
-        bases::fill_delayed(bytes, o, n, c, f, d, out, late)
+        calls::fill_delayed::<Bases>(bytes, o, n, c, f, d, out, late)
     } else {
-        flags::fill_delayed(bytes, o, n, c, f, d, out, late)
+        calls::fill_delayed::<Flags>(bytes, o, n, c, f, d, out, late)
     }
 }
 
@@ -94,7 +102,7 @@ fn fill_delayed_2(
     out: &mut [u32; 512],
     late: &mut [u32; 512],
     later: &mut [u32; 512],
-) -> Filled {
+) -> Result<Filled, Refusal> {
     let o = chars(line, 2);
     let n = chars(line, 3);
     let c = chars(line, 4);
@@ -102,9 +110,9 @@ fn fill_delayed_2(
     let d = chars(line, 6);
     let e = chars(line, 7);
     if line[1] == 2 {
-        bases::fill_delayed_2(bytes, o, n, c, f, d, e, out, late, later)
+        calls::fill_delayed_2::<Bases>(bytes, o, n, c, f, d, e, out, late, later)
     } else {
-        flags::fill_delayed_2(bytes, o, n, c, f, d, e, out, late, later)
+        calls::fill_delayed_2::<Flags>(bytes, o, n, c, f, d, e, out, late, later)
     }
 }
 

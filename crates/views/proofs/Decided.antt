@@ -3,79 +3,56 @@
 use mathlib.Core.Path.{◌≡◌, sym, ap, ◌∙◌}
 use seplogic.Ra.Ura.{Ura}
 use base.Logic.{SProp, ent, sep, fst∗, snd∗}
+use mir.Syntax.{Dict}
 use prog.Memory.{Memory}
 use prog.Routine.{Routine}
 use types.Logic.{Logic}
 use contract.Lifetimes.{Lfts}
 use contract.Monad.{Fun, fact, fact_use, fact_i}
+use denote.Param.Laws.{Laws}
+use denote.RattleType.{RattleType}
 use denote.Triple.Clauses.{Ended, Clauses, AtExit}
 use denote.Triple.Entry.{Args, Res}
 use Rattle.codes.specs.Refusals.{Answer}
 use Rattle.codes.proofs.Permitted.{Decided}
 use Rattle.codes.proofs.RefusalLaws.{says-once, outcome_at, outcome_at_number}
-use Rattle.codes.proofs.AnswerLaws.{symbol_told, word_told, word128_told}
+use Rattle.codes.proofs.AnswerLaws.{told, word128_told}
+use Rattle.codes.specs.declared.widths.Width.{Ghosts}
 use Rattle.fields.specs.Spans.{span_of}
 use Rattle.views.specs.Answers.{part_says}
 use Rattle.views.specs.Views.{Lent}
 use Rattle.views.specs.declared.view.Part.{Part}
-use Rattle.views.specs.contracts.bases.view as bases-view
-use Rattle.views.specs.contracts.bases.get as bases-get
-use Rattle.views.specs.contracts.bases.slice as bases-slice
-use Rattle.views.specs.contracts.bases.normalise as bases-normalise
-use Rattle.views.specs.contracts.flags.view as flags-view
-use Rattle.views.specs.contracts.flags.get as flags-get
-use Rattle.views.specs.contracts.flags.slice as flags-slice
-use Rattle.views.specs.contracts.flags.normalise as flags-normalise
-use Rattle.views.proofs.bases.get_sliced.Kinds as bases-get-sliced·kinds
-use Rattle.views.proofs.bases.get_sliced.Reads as bases-get-sliced
-use Rattle.views.proofs.bases.as_u64.Kinds as bases-as-u64·kinds
-use Rattle.views.proofs.bases.as_u64.Reads as bases-as-u64
-use Rattle.views.proofs.bases.as_u128.Kinds as bases-as-u128·kinds
-use Rattle.views.proofs.bases.as_u128.Reads as bases-as-u128
-use Rattle.views.proofs.bases.revcomp_as_u64.Kinds as bases-revcomp-as-u64·kinds
-use Rattle.views.proofs.bases.revcomp_as_u64.Reads as bases-revcomp-as-u64
-use Rattle.views.proofs.bases.revcomp_as_u128.Kinds as bases-revcomp-as-u128·kinds
-use Rattle.views.proofs.bases.revcomp_as_u128.Reads as bases-revcomp-as-u128
-use Rattle.views.proofs.flags.get_sliced.Kinds as flags-get-sliced·kinds
-use Rattle.views.proofs.flags.get_sliced.Reads as flags-get-sliced
-use Rattle.views.proofs.flags.as_u64.Kinds as flags-as-u64·kinds
-use Rattle.views.proofs.flags.as_u64.Reads as flags-as-u64
-use Rattle.views.proofs.flags.as_u128.Kinds as flags-as-u128·kinds
-use Rattle.views.proofs.flags.as_u128.Reads as flags-as-u128
-use Rattle.views.proofs.flags.revcomp_as_u64.Kinds as flags-revcomp-as-u64·kinds
-use Rattle.views.proofs.flags.revcomp_as_u64.Reads as flags-revcomp-as-u64
-use Rattle.views.proofs.flags.revcomp_as_u128.Kinds as flags-revcomp-as-u128·kinds
-use Rattle.views.proofs.flags.revcomp_as_u128.Reads as flags-revcomp-as-u128
+use Rattle.views.specs.contracts.view.View.new as new
+use Rattle.views.specs.contracts.view.View.get as get
+use Rattle.views.specs.contracts.view.View.slice as slice
+use Rattle.views.specs.contracts.view.View.normalise as normalise
+use Rattle.views.proofs.calls.get_sliced.Kinds as get-sliced·kinds
+use Rattle.views.proofs.calls.get_sliced.Reads as get-sliced
+use Rattle.views.proofs.calls.as_u64.Kinds as as-u64·kinds
+use Rattle.views.proofs.calls.as_u64.Reads as as-u64
+use Rattle.views.proofs.calls.as_u128.Kinds as as-u128·kinds
+use Rattle.views.proofs.calls.as_u128.Reads as as-u128
+use Rattle.views.proofs.calls.revcomp_as_u64.Kinds as revcomp-as-u64·kinds
+use Rattle.views.proofs.calls.revcomp_as_u64.Reads as revcomp-as-u64
+use Rattle.views.proofs.calls.revcomp_as_u128.Kinds as revcomp-as-u128·kinds
+use Rattle.views.proofs.calls.revcomp_as_u128.Reads as revcomp-as-u128
 
-pub bases_get_sliced_decided : Decided 1 bases-get-sliced·kinds.ps bases-get-sliced·kinds.r bases-get-sliced.Post
-bases_get_sliced_decided κs a x y s t p q = says-once symbol_told x y (p ∙ sym q)
+-- at every width W
+module _ (T : RattleType) (L : Laws T) (W : Ghosts T.Denot) (D : Dict) where
+  pub get_sliced_decided : Decided 2 (get-sliced·kinds.ps T L) (get-sliced·kinds.r T L) (get-sliced.Post T L W D)
+  get_sliced_decided κs a x y s t p q = says-once told x y (p ∙ sym q)
 
-pub bases_as_u64_decided : Decided 1 bases-as-u64·kinds.ps bases-as-u64·kinds.r bases-as-u64.Post
-bases_as_u64_decided κs a x y s t p q = says-once word_told x y (p ∙ sym q)
+  pub as_u64_decided : Decided 2 (as-u64·kinds.ps T L) (as-u64·kinds.r T L) (as-u64.Post T L W D)
+  as_u64_decided κs a x y s t p q = says-once told x y (p ∙ sym q)
 
-pub bases_as_u128_decided : Decided 1 bases-as-u128·kinds.ps bases-as-u128·kinds.r bases-as-u128.Post
-bases_as_u128_decided κs a x y s t p q = says-once word128_told x y (p ∙ sym q)
+  pub as_u128_decided : Decided 2 (as-u128·kinds.ps T L) (as-u128·kinds.r T L) (as-u128.Post T L W D)
+  as_u128_decided κs a x y s t p q = says-once word128_told x y (p ∙ sym q)
 
-pub bases_revcomp_as_u64_decided : Decided 1 bases-revcomp-as-u64·kinds.ps bases-revcomp-as-u64·kinds.r bases-revcomp-as-u64.Post
-bases_revcomp_as_u64_decided κs a x y s t p q = says-once word_told x y (p ∙ sym q)
+  pub revcomp_as_u64_decided : Decided 2 (revcomp-as-u64·kinds.ps T L) (revcomp-as-u64·kinds.r T L) (revcomp-as-u64.Post T L W D)
+  revcomp_as_u64_decided κs a x y s t p q = says-once told x y (p ∙ sym q)
 
-pub bases_revcomp_as_u128_decided : Decided 1 bases-revcomp-as-u128·kinds.ps bases-revcomp-as-u128·kinds.r bases-revcomp-as-u128.Post
-bases_revcomp_as_u128_decided κs a x y s t p q = says-once word128_told x y (p ∙ sym q)
-
-pub flags_get_sliced_decided : Decided 1 flags-get-sliced·kinds.ps flags-get-sliced·kinds.r flags-get-sliced.Post
-flags_get_sliced_decided κs a x y s t p q = says-once symbol_told x y (p ∙ sym q)
-
-pub flags_as_u64_decided : Decided 1 flags-as-u64·kinds.ps flags-as-u64·kinds.r flags-as-u64.Post
-flags_as_u64_decided κs a x y s t p q = says-once word_told x y (p ∙ sym q)
-
-pub flags_as_u128_decided : Decided 1 flags-as-u128·kinds.ps flags-as-u128·kinds.r flags-as-u128.Post
-flags_as_u128_decided κs a x y s t p q = says-once word128_told x y (p ∙ sym q)
-
-pub flags_revcomp_as_u64_decided : Decided 1 flags-revcomp-as-u64·kinds.ps flags-revcomp-as-u64·kinds.r flags-revcomp-as-u64.Post
-flags_revcomp_as_u64_decided κs a x y s t p q = says-once word_told x y (p ∙ sym q)
-
-pub flags_revcomp_as_u128_decided : Decided 1 flags-revcomp-as-u128·kinds.ps flags-revcomp-as-u128·kinds.r flags-revcomp-as-u128.Post
-flags_revcomp_as_u128_decided κs a x y s t p q = says-once word128_told x y (p ∙ sym q)
+  pub revcomp_as_u128_decided : Decided 2 (revcomp-as-u128·kinds.ps T L) (revcomp-as-u128·kinds.r T L) (revcomp-as-u128.Post T L W D)
+  revcomp_as_u128_decided κs a x y s t p q = says-once word128_told x y (p ∙ sym q)
 
 -- Of a call over `View` the checker reads no contract; its clauses are read in a model, and there two results of which they hold are the same.
 module _ {M : Type 1} (𝓤 : Ura M) where
@@ -105,27 +82,15 @@ part-once p q e = record {
 pub part-decides : {p q : Part} {x : Answer Lent} → part_says p ≡ x → part_says q ≡ x → SamePart p q
 part-decides {p} {q} e f = part-once p q (e ∙ sym f)
 
-module _ {M : Type 1} {𝓤 : Ura M} (𝓛 : Logic 𝓤) (mem : Memory → SProp 𝓤) (run : Routine → Fun 𝓤) where
-  pub bases_view_decided : DecidedBy 𝓤 bases-view.ended (bases-view.clauses 𝓛 mem run) (λ κs. SamePart)
-  bases_view_decided κs a g x y s t = both 𝓤 part-decides
+module _ (T : RattleType) (W : Ghosts T.Denot) (D : Dict) {M : Type 1} {𝓤 : Ura M} (𝓛 : Logic 𝓤) (mem : Memory → SProp 𝓤) (run : Routine → Fun 𝓤) where
+  pub new_decided : DecidedBy 𝓤 (new.ended T W D) (new.clauses T W D 𝓛 mem run) (λ κs. SamePart)
+  new_decided κs a g x y s t = both 𝓤 part-decides
 
-  pub bases_get_decided : DecidedBy 𝓤 bases-get.ended (bases-get.clauses 𝓛 mem run) (λ κs x y. x ≡ y)
-  bases_get_decided κs a g x y s t = both 𝓤 (λ p q. says-once symbol_told x y (p ∙ sym q))
+  pub get_decided : DecidedBy 𝓤 (get.ended T W D) (get.clauses T W D 𝓛 mem run) (λ κs x y. x ≡ y)
+  get_decided κs a g x y s t = both 𝓤 (λ p q. says-once told x y (p ∙ sym q))
 
-  pub bases_slice_decided : DecidedBy 𝓤 bases-slice.ended (bases-slice.clauses 𝓛 mem run) (λ κs. SamePart)
-  bases_slice_decided κs a g x y s t = both 𝓤 part-decides
+  pub slice_decided : DecidedBy 𝓤 (slice.ended T W D) (slice.clauses T W D 𝓛 mem run) (λ κs. SamePart)
+  slice_decided κs a g x y s t = both 𝓤 part-decides
 
-  pub bases_normalise_decided : DecidedBy 𝓤 bases-normalise.ended (bases-normalise.clauses 𝓛 mem run) (λ κs. SamePart)
-  bases_normalise_decided κs a g x y s t = both 𝓤 part-decides
-
-  pub flags_view_decided : DecidedBy 𝓤 flags-view.ended (flags-view.clauses 𝓛 mem run) (λ κs. SamePart)
-  flags_view_decided κs a g x y s t = both 𝓤 part-decides
-
-  pub flags_get_decided : DecidedBy 𝓤 flags-get.ended (flags-get.clauses 𝓛 mem run) (λ κs x y. x ≡ y)
-  flags_get_decided κs a g x y s t = both 𝓤 (λ p q. says-once symbol_told x y (p ∙ sym q))
-
-  pub flags_slice_decided : DecidedBy 𝓤 flags-slice.ended (flags-slice.clauses 𝓛 mem run) (λ κs. SamePart)
-  flags_slice_decided κs a g x y s t = both 𝓤 part-decides
-
-  pub flags_normalise_decided : DecidedBy 𝓤 flags-normalise.ended (flags-normalise.clauses 𝓛 mem run) (λ κs. SamePart)
-  flags_normalise_decided κs a g x y s t = both 𝓤 part-decides
+  pub normalise_decided : DecidedBy 𝓤 (normalise.ended T W D) (normalise.clauses T W D 𝓛 mem run) (λ κs. SamePart)
+  normalise_decided κs a g x y s t = both 𝓤 part-decides

@@ -1,14 +1,13 @@
 -- Only the characters of a view count for the parts made of it: accepted views with equal characters are sliced and normalised to parts of equal
 -- number, length and characters. (Their bytes and places are those of the buffers that were lent.)
 -- Assumes nothing.
+use Rattle.std.specs.Prelude.{Ok, Err}
 use mathlib.Core.List.{List, [], ◌∷◌}
 use mathlib.Core.Path.{◌≡◌, refl, sym, ap, ◌∙◌}
 use Prim.Native.Nat.{ℕ, ◌+◌, ◌-◌}
 use lib.ListN.{length, take, drop}
 use Rattle.codes.specs.Codes.{IsWidth, chars}
-use Rattle.codes.specs.Refusals.{Answer, first, if_done, number_of, bad_end, bad_start}
-use Rattle.codes.specs.declared.refusals.Outcome.{Outcome}
-use Rattle.codes.specs.declared.refusals.Outcome.TheVariants.{Done, Refused}
+use Rattle.codes.specs.Refusals.{Answer, first, if_done, number_of, bad_end, bad_start, Outcome}
 use Rattle.codes.proofs.CharLaws.{same_length}
 use Rattle.codes.proofs.Viewed.{Same, viewed}
 use Rattle.fields.specs.Fields.{slice_tests}
@@ -29,16 +28,16 @@ pub record Alike (w : ℕ) (x y : Answer Lent) : Type 0 where
 
 -- a slice's part, by its outcome
 len-if : (q : Outcome) (p z : Lent) → (if_done q p z).len ≡ if_done q p.len z.len
-len-if Done p z = refl
-len-if (Refused r) p z = refl
+len-if (Ok tt) p z = refl
+len-if (Err r) p z = refl
 
 chars-if : (w : ℕ) (q : Outcome) (p z : Lent) → chars_in w (if_done q p z) ≡ if_done q (chars_in w p) (chars_in w z)
-chars-if w Done p z = refl
-chars-if w (Refused r) p z = refl
+chars-if w (Ok tt) p z = refl
+chars-if w (Err r) p z = refl
 
-same_if : (q : Outcome) (xs ys zs : List ℕ) → (q ≡ Done → xs ≡ ys) → if_done q xs zs ≡ if_done q ys zs
-same_if Done xs ys zs h = h refl
-same_if (Refused r) xs ys zs h = refl
+same_if : (q : Outcome) (xs ys zs : List ℕ) → (q ≡ Ok tt → xs ≡ ys) → if_done q xs zs ≡ if_done q ys zs
+same_if (Ok tt) xs ys zs h = h refl
+same_if (Err r) xs ys zs h = refl
 
 module _ {w : ℕ} (s t : Span) {o m p n : ℕ} (v : Same w s.bytes o m t.bytes p n) where
   pub normalised-viewed : IsWidth w → Alike w (normalised w s o m) (normalised w t p n)
@@ -49,7 +48,7 @@ module _ {w : ℕ} (s t : Span) {o m p n : ℕ} (v : Same w s.bytes o m t.bytes 
       record { no = a.0 ∙ sym b.0; len = same_length w _ _ _ _ _ _ same; characters = same }
 
   module _ (start end : ℕ) where
-    between : first (slice_tests w (length s.bytes) o m start end) ≡ Done → first (slice_tests w (length t.bytes) p n start end) ≡ Done
+    between : first (slice_tests w (length s.bytes) o m start end) ≡ Ok tt → first (slice_tests w (length t.bytes) p n start end) ≡ Ok tt
         → chars w s.bytes (o + start) (end - start) ≡ chars w t.bytes (p + start) (end - start)
     between d e =
         let a = slice_cut w (length s.bytes) o m start end d in

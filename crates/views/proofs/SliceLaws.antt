@@ -1,5 +1,6 @@
 -- What slicing and normalising do to the characters: a part that is handed back is accepted again, a slice has the characters from its start up to its end, and normalising keeps them all.
 -- Assumes nothing.
+use Rattle.std.specs.Prelude.{Ok, Err}
 use mathlib.Core.List.{List, [], ◌∷◌}
 use mathlib.Core.Path.{◌≡◌, refl, sym, ap, ◌∙◌, subst}
 use Prim.Native.Nat.{ℕ, ◌+◌, ◌-◌, ◌*◌, ◌/◌, ◌%◌, ◌^◌, ◌≤◌}
@@ -10,9 +11,7 @@ use lib.ListN.{length, get_or, take, drop, length-drop}
 use lib.Seq.{length-take-le, take_at, drop_at, get_or-take, get_or-drop}
 use borrow.Author.Tests.{le-ltb, le-leb}
 use Rattle.codes.specs.Codes.{IsWidth, per, up, trailing, chars}
-use Rattle.codes.specs.Refusals.{Test, Answer, if_done, answer, first, bad_index, bad_end, bad_start, bad_view, view_tests}
-use Rattle.codes.specs.declared.refusals.Outcome.{Outcome}
-use Rattle.codes.specs.declared.refusals.Outcome.TheVariants.{Done, Refused}
+use Rattle.codes.specs.Refusals.{Test, Answer, if_done, answer, first, bad_index, bad_end, bad_start, bad_view, view_tests, Outcome}
 use Rattle.codes.specs.declared.refusals.Refusal.TheVariants.{TooLong, BadView, BadRange}
 use Rattle.codes.proofs.CharLaws.{length-chars, chars-append}
 use Rattle.codes.proofs.WidthLaws.{up-hi, below_or}
@@ -24,10 +23,10 @@ use Rattle.views.specs.Views.{Lent, lent, empty, normal, made, sliced, normalise
 
 -- a part is an accepted view with these characters
 pub record Holds (w : ℕ) (cs : List ℕ) (p : Lent) : Type 0 where
-  pub accepted : first (view_tests w (length p.span.bytes) p.offset p.len) ≡ Done
+  pub accepted : first (view_tests w (length p.span.bytes) p.offset p.len) ≡ Ok tt
   pub characters : chars w p.span.bytes p.offset p.len ≡ cs
 
-pub room_done : (w n o len : ℕ) → Room w n o len → first (view_tests w n o len) ≡ Done
+pub room_done : (w n o len : ℕ) → Room w n o len → first (view_tests w n o len) ≡ Ok tt
 room_done w n o len r =
     first_next (ltb (2 ^ 28) n) TooLong (bad_view w n o len ∷ []) (le-ltb (2 ^ 28) n r.small)
     ∙ first_next (ltb (n * per w) (o + len + trailing * per w)) BadView [] (le-ltb (n * per w) (o + len + trailing * per w) r.fits)
@@ -44,16 +43,16 @@ chars-between w bs o len start end l m =
     whole = omega arith
 
 -- where a call is done, its part holds what it should
-pub held : {w : ℕ} {cs : List ℕ} {q : Outcome} (p z : Lent) → q ≡ Done → Holds w cs p → ((answer q p z).no ≡ 0) × Holds w cs (answer q p z).values
+pub held : {w : ℕ} {cs : List ℕ} {q : Outcome} (p z : Lent) → q ≡ Ok tt → Holds w cs p → ((answer q p z).no ≡ 0) × Holds w cs (answer q p z).values
 held {w} {cs} {q} p z d h = subst (λ (x : Outcome). ((answer x p z).no ≡ 0) × Holds w cs (answer x p z).values) (sym d) (refl, h)
 
-module _ {w : ℕ} (s : Span) (o len : ℕ) (e : first (view_tests w (length s.bytes) o len) ≡ Done) where
+module _ {w : ℕ} (s : Span) (o len : ℕ) (e : first (view_tests w (length s.bytes) o len) ≡ Ok tt) where
   pub sliced-holds : (start end : ℕ) → start ≤ end → end ≤ len
       → ((sliced w s o len start end).no ≡ 0) × Holds w (take (end - start) (drop start (chars w s.bytes o len))) (sliced w s o len start end).values
   unfolding sliced
   sliced-holds start end l m =
       let r = view_accepted w (length s.bytes) o len e in
-      let d : first (slice_tests w (length s.bytes) o len start end) ≡ Done = first_done (view_tests w (length s.bytes) o len) (bad_end len end ∷ bad_start start end ∷ []) e
+      let d : first (slice_tests w (length s.bytes) o len start end) ≡ Ok tt = first_done (view_tests w (length s.bytes) o len) (bad_end len end ∷ bad_start start end ∷ []) e
       ∙ first_next (ltb len end) BadRange (bad_start start end ∷ []) (le-ltb len end m) ∙ first_next (ltb end start) BadRange [] (le-ltb end start l) in
       held (lent s (o + start) (end - start)) (empty s) d
       (record {
@@ -123,7 +122,7 @@ module _ {w : ℕ} (W : IsWidth w) (s : Span) (o len start end i : ℕ) where
   abbrev read : Answer ℕ
   read = got_of w (normalised_of w (sliced_of w (made w s o len).values start end).values).values i
 
-  within : first tests ≡ Done → read ≡ answer (first (bad_index (end - start) i ∷ [])) (get_or (chars w s.bytes o len) (start + i) 0) 0
+  within : first tests ≡ Ok tt → read ≡ answer (first (bad_index (end - start) i ∷ [])) (get_or (chars w s.bytes o len) (start + i) 0) 0
   within d =
       let cut = slice_cut w (length s.bytes) o len start end d in
       let cs : List ℕ = chars w s.bytes o len in
@@ -145,5 +144,5 @@ module _ {w : ℕ} (W : IsWidth w) (s : Span) (o len start end i : ℕ) where
   got_sliced-is = cases (first tests) refl
     where
       cases : (q : Outcome) → first tests ≡ q → if_done q read (answer q 0 0) ≡ got_sliced w s.bytes o len start end i
-      cases Done d = within d ∙ sym (ap (λ (q : Outcome). answer q (get_or (chars w s.bytes o len) (start + i) 0) 0) (first_done tests (bad_index (end - start) i ∷ []) d))
-      cases (Refused r) d = sym (ap (λ (q : Outcome). answer q (get_or (chars w s.bytes o len) (start + i) 0) 0) (first_refused tests (bad_index (end - start) i ∷ []) r d))
+      cases (Ok tt) d = within d ∙ sym (ap (λ (q : Outcome). answer q (get_or (chars w s.bytes o len) (start + i) 0) 0) (first_done tests (bad_index (end - start) i ∷ []) d))
+      cases (Err r) d = sym (ap (λ (q : Outcome). answer q (get_or (chars w s.bytes o len) (start + i) 0) 0) (first_refused tests (bad_index (end - start) i ∷ []) r d))

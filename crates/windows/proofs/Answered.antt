@@ -2,6 +2,7 @@
 -- view of flags, and filling and stepping windows over it, with any context, k, skip and state, answer what the flags give that the calls alone give. An
 -- entry whose window a call keeps has the same value after it.
 -- Assumes nothing.
+use Rattle.std.specs.Prelude.{Ok}
 use mathlib.Core.Bool.{Bool}
 use mathlib.Core.List.{List, []}
 use mathlib.Core.Path.{◌≡◌, sym, ap, ◌∙◌}
@@ -12,10 +13,10 @@ use lib.ListN.{length, get_or, replicate}
 use Rattle.codes.specs.Codes.{pick, chars, trailing}
 use Rattle.codes.specs.Refusals.{answer, first, if_done, view_tests}
 use Rattle.codes.specs.Windows.{window}
-use Rattle.codes.specs.declared.refusals.Outcome.TheVariants.{Done}
 use Rattle.codes.proofs.CharLaws.{length-chars}
 use Rattle.codes.proofs.OutcomeLaws.{first_done}
-use Rattle.codes.proofs.WidthLaws.{width_1, up-hi}
+use Rattle.codes.specs.Widths.{width_1}
+use Rattle.codes.proofs.WidthLaws.{up-hi}
 use Rattle.lanes.specs.Lanes.{lane, padding, steps}
 use Rattle.stores.specs.Changes.{Overwrites}
 use Rattle.stores.specs.History.{Store, step, run, history, flags_of}
@@ -29,7 +30,7 @@ use Rattle.windows.proofs.WindowFillLaws.{windows_open}
 use Rattle.windows.specs.Windows.{windows_filled, Running, at_zero, step_answers, step_state, fill_tests, windows_outcome, windows_answer, windows_after, run_tests, run_outcome, run_answers, run_state}
 
 -- an accepted view whose flags are h
-module _ (xs : List ℕ) (p m : ℕ) (h : List ℕ) (are : chars 1 xs p m ≡ h) (taken : first (view_tests 1 (length xs) p m) ≡ Done) (c k : ℕ) where
+module _ (xs : List ℕ) (p m : ℕ) (h : List ℕ) (are : chars 1 xs p m ≡ h) (taken : first (view_tests 1 (length xs) p m) ≡ Ok tt) (c k : ℕ) where
   count : m ≡ length h
   count = sym (length-chars 1 xs p m) ∙ ap length are
 
@@ -64,7 +65,7 @@ module _ (xs : List ℕ) (p m : ℕ) (h : List ℕ) (are : chars 1 xs p m ≡ h)
 
 -- step j, lane l of a filling over a store's track that is done
 pub record Entry (s : Store) (c k skip : ℕ) (out : List ℕ) (j l : ℕ) : Type 0 where
-  pub done : windows_outcome s.bytes 0 s.len c k skip (length out) ≡ Done
+  pub done : windows_outcome s.bytes 0 s.len c k skip (length out) ≡ Ok tt
   pub from : skip ≤ j
   pub below : j < steps 1 s.len c 1
   pub lane-is : l < 8
@@ -98,19 +99,19 @@ pub entries_kept : (s : Store) (call : Call) {c d k skip skip' : ℕ} {out out' 
     → Entry s c k skip out j l → Entry (step 1 s call) d k skip' out' j' l'
     → begins (step 1 s call) d k j' l' ≡ begins s c k j l
     → begins s c k j l + k ≤ s.len → begins s c k j l + k ≤ (step 1 s call).len
-    → ((i : ℕ) → begins s c k j l ≤ i → i < begins s c k j l + k → Done ≡ outcome 1 (length s.bytes) s.len call → Overwrites call i → ⊥)
+    → ((i : ℕ) → begins s c k j l ≤ i → i < begins s c k j l + k → (Ok tt) ≡ outcome 1 (length s.bytes) s.len call → Overwrites call i → ⊥)
     → entry (step 1 s call) d k skip' out' j' l' ≡ entry s c k skip out j l
 entries_kept s call {c} {k} {j} {l} e f same a b h = entries_same e f same (λ lo hi. windows_kept s call (begins s c k j l) k lo hi a b h)
 
 -- after a clear that is accepted and the calls cs
-module _ (bs : List ℕ) (old : ℕ) (e : outcome 1 (length bs) 0 clear ≡ Done) (cs : List Call) where
+module _ (bs : List ℕ) (old : ℕ) (e : outcome 1 (length bs) 0 clear ≡ Ok tt) (cs : List Call) where
   abbrev s : Store
   s = run 1 (step 1 (record { bytes = bs; len = old }) clear) cs
 
   abbrev h : List ℕ
   h = history 1 (length bs) [] cs
 
-  pub track_accepted : first (view_tests 1 (length s.bytes) 0 s.len) ≡ Done
+  pub track_accepted : first (view_tests 1 (length s.bytes) 0 s.len) ≡ Ok tt
   track_accepted =
       let K = history-kept width_1 bs old e cs in
       let n : s.len ≡ length h = K.lengths in

@@ -6,6 +6,7 @@ pub mod TotalLaws
 pub mod Stepping
 pub mod Viewed
 pub mod Answered
+pub mod AnswerLaws
 pub mod Decided
 pub mod Lowest
 pub mod Refused

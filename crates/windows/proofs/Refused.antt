@@ -1,24 +1,16 @@
 -- For each public call: where its number is not 0, every other number is 0, each answer, each count and the step among them, and the lent buffer
 -- is what it was.
 -- Assumes nothing.
-use mathlib.Core.List.{List}
-use Prim.Native.Nat.{ℕ}
 use lib.ListN.{replicate}
-use Rattle.codes.specs.Refusals.{Answer, number_of}
 use Rattle.codes.proofs.Permitted.{Refuses, skip}
 use Rattle.codes.proofs.RefusalLaws.{refused_keeps}
 use Rattle.streams.specs.Answers.{filled_says}
-use Rattle.windows.specs.Answers.{running}
-use Rattle.windows.specs.Windows.{Running, windows_outcome, windows_answer, windows_after, run_outcome, run_answers, run_state}
-use Rattle.windows.specs.declared.answers.Ran.{Ran}
+use Rattle.windows.specs.Answers.{ran_says}
+use Rattle.windows.specs.Windows.{windows_outcome, windows_answer, windows_after, run_outcome, run_answers, run_state}
 use Rattle.windows.proofs.flags.fill_windows.Kinds as flags-fill-windows·kinds
 use Rattle.windows.proofs.flags.fill_windows.Reads as flags-fill-windows
 use Rattle.windows.proofs.flags.step_windows.Kinds as flags-step-windows·kinds
 use Rattle.windows.proofs.flags.step_windows.Reads as flags-step-windows
-
--- what a step says: its answers and the state
-abbrev ran_says : Ran → Answer (List ℕ × Running)
-ran_says r = record { no = number_of r.outcome; values = (r.answers, running r.state) }
 
 pub flags_fill_windows_refused : Refuses 2 flags-fill-windows·kinds.ps flags-fill-windows·kinds.r flags-fill-windows.Post (λ κs. filled_says)
     (λ κs a. ((0, 0), skip 6 (a.1.1.1.1.1.1.0.now, tt)))

@@ -1,5 +1,6 @@
 -- The laws of running windows: a test of lanes, lane by lane.
 -- Assumes nothing.
+use Rattle.std.specs.Prelude.{Result, Ok, Err}
 use mathlib.Core.Bool.{Bool, true, false, ◌||◌}
 use mathlib.Core.List.{List, [], ◌∷◌}
 use mathlib.Core.Path.{◌≡◌, refl, sym, ap, ap₂, ◌∙◌}
@@ -12,18 +13,18 @@ use lib.ListN.{length, get_or, replicate}
 use lib.Pow.{pow_pos}
 use borrow.Author.Tests.{ltb-false, le-leb, lt-leb}
 use Rattle.codes.specs.Codes.{pick, tab, chars}
-use Rattle.codes.specs.Refusals.{Test, first, if_done, view_tests}
-use Rattle.codes.specs.declared.refusals.Outcome.TheVariants.{Done, Refused}
-use Rattle.codes.specs.declared.refusals.Outcome.{Outcome}
+use Rattle.codes.specs.Refusals.{Test, first, if_done, view_tests, number_of, Outcome}
 use Rattle.codes.specs.declared.refusals.Refusal.{Refusal}
 use Rattle.codes.specs.declared.refusals.Refusal.TheVariants.{BadStream}
 use Rattle.codes.proofs.CodeLaws.{pick-lt}
 use Rattle.codes.proofs.TabLaws.{get_or-tab, tab-ext, Below-tab, Below-get_or}
 use Rattle.codes.proofs.WordLaws.{Below}
-use Rattle.codes.proofs.OutcomeLaws.{or_true, first_both, first_refused}
+use Rattle.codes.proofs.OutcomeLaws.{or_true, first_both}
 use Rattle.codes.proofs.TestLaws.{first_behind, first_none}
 use Rattle.lanes.specs.Lanes.{lane, steps, bad_shape, lane_char, lanes}
 use Rattle.streams.specs.Streams.{bad_step}
+use Rattle.windows.specs.Answers.{ran_says}
+use Rattle.windows.specs.declared.answers.Ran.{Ran}
 use Rattle.windows.specs.Windows.{bad_window, bad_state, Running, at_zero, summed, leaving, any_lane, step_answers, step_state, window_tests, run_outcome, run_answers, run_state}
 use Rattle.codes.proofs.RefusalLaws.{neither}
 
@@ -54,12 +55,12 @@ any_ext (suc n) f g h = ap₂ (λ (a b : Bool). a || b) (any_ext n f g (λ l m. 
 
 -- the tests of flag windows, one by one
 pub record Windowed (bs : List ℕ) (o len c k : ℕ) : Type 0 where
-  pub view : first (view_tests 1 (length bs) o len) ≡ Done
-  pub shape : first (bad_shape c 1 ∷ []) ≡ Done
+  pub view : first (view_tests 1 (length bs) o len) ≡ Ok tt
+  pub shape : first (bad_shape c 1 ∷ []) ≡ Ok tt
   pub low : 1 ≤ k
   pub high : k ≤ 96
 
-pub window-open : (bs : List ℕ) (o len c k : ℕ) → first (window_tests bs o len c k) ≡ Done → Windowed bs o len c k
+pub window-open : (bs : List ℕ) (o len c k : ℕ) → first (window_tests bs o len c k) ≡ Ok tt → Windowed bs o len c k
 window-open bs o len c k h =
     let a = first_both (view_tests 1 (length bs) o len) (bad_shape c 1 ∷ bad_window k ∷ []) h in
     let b = first_both (bad_shape c 1 ∷ []) (bad_window k ∷ []) a.1 in
@@ -122,39 +123,28 @@ module _ (bs : List ℕ) (o len c k : ℕ) (s : Running) where
   cs = chars 1 bs o len
 
   -- refused, all is zero
-  pub run_refused : {r : Refusal} {u : Outcome} {answers counts : List ℕ} {at : ℕ} → run_outcome bs o len c k s ≡ Refused r
-      → (u ≡ Refused r) × (answers ≡ replicate 8 0) × (counts ≡ replicate 8 0) × (at ≡ 0)
-      → (u ≡ run_outcome bs o len c k s) × ((answers ≡ run_answers bs o len c k s) × (record { counts = counts; at = at } ≡ run_state bs o len c k s))
+  pub run_refused : {r : Refusal} {x : Result Ran Refusal} → run_outcome bs o len c k s ≡ Err r → x ≡ Err r
+      → ((ran_says x).no ≡ number_of (run_outcome bs o len c k s)) × ((ran_says x).values.0 ≡ run_answers bs o len c k s) × ((ran_says x).values.1 ≡ run_state bs o len c k s)
   unfolding run_answers run_state
-  run_refused e x = (
-    x.0 ∙ sym e,
-    (
-      x.1 ∙ sym (ap (λ (u : Outcome). if_done u (step_answers cs n s) (replicate 8 0)) e),
-      ap₂ (λ (y : List ℕ) (j : ℕ). record { counts = y; at = j }) x.2 x.3 ∙ sym (ap (λ (u : Outcome). if_done u (step_state cs n k s) at_zero) e),
-    ),
-  )
+  run_refused e q = (rw (q, e), rw (q, e), rw (q, e))
 
-  pub run_done : run_outcome bs o len c k s ≡ Done → (run_answers bs o len c k s ≡ step_answers cs n s) × (run_state bs o len c k s ≡ step_state cs n k s)
+  pub run_done : run_outcome bs o len c k s ≡ Ok tt → (run_answers bs o len c k s ≡ step_answers cs n s) × (run_state bs o len c k s ≡ step_state cs n k s)
   unfolding run_answers run_state
   run_done e = (ap (λ (u : Outcome). if_done u (step_answers cs n s) (replicate 8 0)) e, ap (λ (u : Outcome). if_done u (step_state cs n k s) at_zero) e)
 
   -- a step's own tests
-  abbrev own : List Test
+  abbrev pub own : List Test
   own = bad_step (steps 1 len c 1) s.at ∷ bad_state cs n k s ∷ []
 
-  module _ (opened : first (window_tests bs o len c k) ≡ Done) where
-    pub run_past : steps 1 len c 1 ≤ s.at → run_outcome bs o len c k s ≡ Refused BadStream
+  module _ (opened : first (window_tests bs o len c k) ≡ Ok tt) where
+    pub run_past : steps 1 len c 1 ≤ s.at → run_outcome bs o len c k s ≡ Err BadStream
     unfolding run_outcome
     run_past h = sym (first_behind (window_tests bs o len c k) own opened 0 (le-leb (steps 1 len c 1) s.at h))
 
-    pub run-bad : s.at < steps 1 len c 1 → (bad_state cs n k s).0 ≡ true → run_outcome bs o len c k s ≡ Refused BadStream
+    pub run-bad : s.at < steps 1 len c 1 → (bad_state cs n k s).0 ≡ true → run_outcome bs o len c k s ≡ Err BadStream
     unfolding run_outcome
     run-bad h e = sym (first_behind (window_tests bs o len c k) own opened 1 (lt-leb (steps 1 len c 1) s.at h, e))
 
-    pub run-right : s.at < steps 1 len c 1 → (bad_state cs n k s).0 ≡ false → run_outcome bs o len c k s ≡ Done
+    pub run-right : s.at < steps 1 len c 1 → (bad_state cs n k s).0 ≡ false → run_outcome bs o len c k s ≡ Ok tt
     unfolding run_outcome
     run-right h e = sym (first_behind (window_tests bs o len c k) own opened 2 (lt-leb (steps 1 len c 1) s.at h, (e, tt)))
-
-  pub run-shut : (r : Refusal) → first (window_tests bs o len c k) ≡ Refused r → run_outcome bs o len c k s ≡ Refused r
-  unfolding run_outcome
-  run-shut r e = first_refused (window_tests bs o len c k) own r e

@@ -1,14 +1,13 @@
 -- Stepping and filling agree for flag windows: what a step answers is what filling writes at its eight entries.
 -- Assumes nothing.
+use Rattle.std.specs.Prelude.{Ok}
 use mathlib.Core.List.{List}
 use mathlib.Core.Path.{◌≡◌, sym, ap, ap₂, ◌∙◌}
 use Prim.Native.Nat.{ℕ, zero, suc, ◌+◌, ◌-◌, ◌*◌, ◌≤◌, ◌<◌}
 use native.Mathlib.Omega.{arith}
 use lib.ListN.{length, get_or, take, drop}
 use Rattle.codes.specs.Codes.{tab, chars}
-use Rattle.codes.specs.Refusals.{first, if_done}
-use Rattle.codes.specs.declared.refusals.Outcome.{Outcome}
-use Rattle.codes.specs.declared.refusals.Outcome.TheVariants.{Done}
+use Rattle.codes.specs.Refusals.{first, if_done, Outcome}
 use Rattle.codes.proofs.CharLaws.{chars-fit}
 use Rattle.codes.proofs.TabLaws.{tab-ext, Below-get_or}
 use Rattle.lanes.specs.Lanes.{lane, steps}
@@ -18,7 +17,7 @@ use Rattle.windows.proofs.TotalLaws.{state_at, state_first, state_next, state_go
 use Rattle.windows.proofs.WindowFillLaws.{windows_open}
 use Rattle.streams.proofs.Stepping.{eight, at_step, at_lane}
 
-module _ (bs : List ℕ) (o len c k : ℕ) (opened : first (window_tests bs o len c k) ≡ Done) where
+module _ (bs : List ℕ) (o len c k : ℕ) (opened : first (window_tests bs o len c k) ≡ Ok tt) where
   abbrev cs : List ℕ
   cs = chars 1 bs o len
 
@@ -32,7 +31,7 @@ module _ (bs : List ℕ) (o len c k : ℕ) (opened : first (window_tests bs o le
     abbrev state : ℕ → Running
     state = state_at cs flags n k W.low
 
-    accepted : (j : ℕ) → j < steps 1 len c 1 → run_outcome bs o len c k (state j) ≡ Done
+    accepted : (j : ℕ) → j < steps 1 len c 1 → run_outcome bs o len c k (state j) ≡ Ok tt
     unfolding state_at
     accepted j h = run-right bs o len c k (state j) opened h (state_good cs flags n k W.low j)
 
@@ -42,7 +41,7 @@ module _ (bs : List ℕ) (o len c k : ℕ) (opened : first (window_tests bs o le
     ran-is (suc j) h =
         ap (run_state bs o len c k) (ran-is j (omega arith)) ∙ (run_done bs o len c k (state j) (accepted j h)).1 ∙ state_next cs flags n k W.low j
 
-    ran-gives : (j : ℕ) → j < steps 1 len c 1 → (run_outcome bs o len c k (ran bs o len c k j) ≡ Done) × (run_answers bs o len c k (ran bs o len c k j) ≡ tab 8 (lane_window cs n k j))
+    ran-gives : (j : ℕ) → j < steps 1 len c 1 → (run_outcome bs o len c k (ran bs o len c k j) ≡ Ok tt) × (run_answers bs o len c k (ran bs o len c k j) ≡ tab 8 (lane_window cs n k j))
     ran-gives j h =
         let q = ran-is j (omega arith) in (
           ap (run_outcome bs o len c k) q ∙ accepted j h,
@@ -51,11 +50,11 @@ module _ (bs : List ℕ) (o len c k : ℕ) (opened : first (window_tests bs o le
 
   -- no step before the last is refused, and each gives whether its windows hold a set flag
   pub windows_stepping : (j : ℕ) → j < steps 1 len c 1
-      → (run_outcome bs o len c k (ran bs o len c k j) ≡ Done) × (run_answers bs o len c k (ran bs o len c k j) ≡ tab 8 (lane_window cs n k j))
+      → (run_outcome bs o len c k (ran bs o len c k j) ≡ Ok tt) × (run_answers bs o len c k (ran bs o len c k j) ≡ tab 8 (lane_window cs n k j))
   windows_stepping = ran-gives (window-open bs o len c k opened)
 
 -- and from `skip` on that is what filling writes
-pub windows_filling : (bs : List ℕ) (o len c k skip : ℕ) (out : List ℕ) → windows_outcome bs o len c k skip (length out) ≡ Done → (j : ℕ) → skip ≤ j → j < steps 1 len c 1
+pub windows_filling : (bs : List ℕ) (o len c k skip : ℕ) (out : List ℕ) → windows_outcome bs o len c k skip (length out) ≡ Ok tt → (j : ℕ) → skip ≤ j → j < steps 1 len c 1
     → run_answers bs o len c k (ran bs o len c k j) ≡ take 8 (drop (8 * (j - skip)) (windows_after bs o len c k skip out))
 unfolding windows_after windows_filled
 windows_filling bs o len c k skip out done j g h =

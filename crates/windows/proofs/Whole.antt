@@ -1,19 +1,18 @@
 -- Every window that filling writes is whole: it has k positions, those past the view clear. None that starts in a lane is left out, and no k is
 -- shut out.
 -- Assumes nothing.
+use Rattle.std.specs.Prelude.{Ok}
 use mathlib.Core.Bool.{Bool, false, ◌&&◌, ◌||◌}
 use mathlib.Core.List.{List}
-use mathlib.Core.Path.{◌≡◌, refl, sym, ap, ◌∙◌}
+use mathlib.Core.Path.{◌≡◌, sym, ap, ◌∙◌}
 use Prim.Native.Nat.{ℕ, suc, ◌+◌, ◌-◌, ◌*◌, ◌/◌, ◌%◌, ◌≤◌, ◌<◌, min}
 use native.Mathlib.Omega.{arith}
 use lib.Dec.{ltb}
 use lib.ListN.{length, get_or, drop, get_or-append}
 use borrow.Author.Tests.{ltb-false, lt-ltb, le-ltb}
 use Rattle.codes.specs.Codes.{pick, tab, chars}
-use Rattle.codes.specs.Refusals.{answer, first, if_done}
+use Rattle.codes.specs.Refusals.{answer, first, if_done, Outcome}
 use Rattle.codes.specs.Windows.{window}
-use Rattle.codes.specs.declared.refusals.Outcome.{Outcome}
-use Rattle.codes.specs.declared.refusals.Outcome.TheVariants.{Done}
 use Rattle.codes.specs.declared.units.Chars.{Chars}
 use Rattle.codes.proofs.RefusalLaws.{neither, answer-values}
 use Rattle.codes.proofs.TabLaws.{length-tab, get_or-tab}
@@ -21,7 +20,6 @@ use Rattle.codes.proofs.TestLaws.{first_behind}
 use Rattle.codes.proofs.WidthLaws.{below_or}
 use Rattle.lanes.specs.Lanes.{lane, padding, steps}
 use Rattle.lanes.proofs.ShapeLaws.{shape_ranges, steps-none, steps-some}
-use Rattle.streams.specs.declared.answers.Filled.TheVariants as Filled
 use Rattle.streams.proofs.Stepping.{at_step, at_lane}
 use Rattle.windows.specs.Windows.{partial, lane_window, window_tests, windows_filled, windows_outcome, windows_answer, windows_after}
 use Rattle.windows.proofs.RunLaws.{window-open}
@@ -59,7 +57,7 @@ lane_whole flags n k j l h =
     λ i. pick (window flags (at i) (long i)) 0xffff_ffff 0
 
 -- where filling is done, the entries of step j, from skip on
-pub windows_whole : (bs : List ℕ) (o len c k skip : ℕ) (out : List ℕ) → windows_outcome bs o len c k skip (length out) ≡ Done
+pub windows_whole : (bs : List ℕ) (o len c k skip : ℕ) (out : List ℕ) → windows_outcome bs o len c k skip (length out) ≡ Ok tt
     → (j l : ℕ) → skip ≤ j → j < steps 1 len c 1 → l < 8
     → (k - 1 ≤ j) × (get_or (windows_after bs o len c k skip out) (8 * (j - skip) + l) 0 ≡ whole_window (chars 1 bs o len) (lane 1 len c 1) k j l)
 unfolding windows_after
@@ -75,7 +73,7 @@ windows_whole bs o len c k skip out done j l from below d =
     )
 
 -- with a skip of k − 1 entry 8 i + l is the window that starts at character i of lane l: none is left out
-pub windows_all : (bs : List ℕ) (o len c k : ℕ) (out : List ℕ) → windows_outcome bs o len c k (k - 1) (length out) ≡ Done → (i l : ℕ) → i < lane 1 len c 1 → l < 8
+pub windows_all : (bs : List ℕ) (o len c k : ℕ) (out : List ℕ) → windows_outcome bs o len c k (k - 1) (length out) ≡ Ok tt → (i l : ℕ) → i < lane 1 len c 1 → l < 8
     → get_or (windows_after bs o len c k (k - 1) out) (8 * i + l) 0 ≡ pick (window (chars 1 bs o len) (l * lane 1 len c 1 + i) k) 0xffff_ffff 0
 unfolding lane
 windows_all bs o len c k out done i l below d =
@@ -92,7 +90,7 @@ windows_all bs o len c k out done i l below d =
     ∙ ap (λ (p : ℕ). pick (window (chars 1 bs o len) p k) 0xffff_ffff 0) start
 
 -- of the call: a is what it is given, x what its buffer holds at exit; m steps written, each entry of them a whole window's
-pub fill_windows_whole : (κs : _) (a : _) (m : ℕ) (p : Chars) (s : _) → fill-windows.Post κs a (Filled.Is m p) s
+pub fill_windows_whole : (κs : _) (a : _) (m : ℕ) (p : Chars) (s : _) → fill-windows.Post κs a (Ok (record { steps = m; padding = p })) s
     → let bs = a.0.now in let o = a.1.0.0 in let len = a.1.1.0.0 in let d = a.1.1.1 in let c = d.0.0 in let k = d.1.0.0 in let skip = d.1.1.0 in
     let x = s.1.1.1.1.1.1.0.now in
     (i l : ℕ) → i < m → l < 8 → (k - 1 ≤ skip + i) × (get_or x (8 * i + l) 0 ≡ whole_window (chars 1 bs o len) (lane 1 len c 1) k (skip + i) l)
@@ -106,7 +104,7 @@ fill_windows_whole κs a m p s post i l h d =
     let k = e.1.0.0 in
     let skip : ℕ = e.1.1.0 in
     let out = e.1.1.1.0.now in
-    let done = windows_is_done bs o len c k skip out (Filled.Is m p) post.0 m p refl in
+    let done = windows_is_done bs o len c k skip out _ post.0 in
     let values = answer-values (m, p.0) (steps 1 len c 1 - skip, padding 1 len c 1) (0, 0) (0, 0)
     (post.0 ∙ ap (λ (u : Outcome). answer u (steps 1 len c 1 - skip, padding 1 len c 1) (0, 0)) done) in
     let many : m ≡ steps 1 len c 1 - skip = ap (λ (v : ℕ × ℕ). v.0) values in
@@ -124,12 +122,12 @@ steps-enough len c k low h some =
     (λ g. absurd (omega (arith, steps-none 1 len c 1 g)))
     (λ g. omega (arith, steps-some 1 len c 1 low g))
 
-module _ (bs : List ℕ) (o len c k : ℕ) (opened : first (window_tests bs o len c k) ≡ Done) (m : ℕ) where
+module _ (bs : List ℕ) (o len c k : ℕ) (opened : first (window_tests bs o len c k) ≡ Ok tt) (m : ℕ) where
   abbrev n : ℕ
   n = steps 1 len c 1
 
   -- so that a skip of k − 1 is allowed
-  pub skip_allowed : k ≤ c → 0 < n → 8 * (n - (k - 1)) ≤ m → windows_outcome bs o len c k (k - 1) m ≡ Done
+  pub skip_allowed : k ≤ c → 0 < n → 8 * (n - (k - 1)) ≤ m → windows_outcome bs o len c k (k - 1) m ≡ Ok tt
   unfolding windows_outcome
   skip_allowed h some room =
       let w = window-open bs o len c k opened in
@@ -138,7 +136,7 @@ module _ (bs : List ℕ) (o len c k : ℕ) (opened : first (window_tests bs o le
       sym (first_behind (window_tests bs o len c k) (fills_own n c k (k - 1) m) opened 3 (le-ltb n (k - 1) (omega arith), (whole, (le-ltb m (8 * (n - (k - 1))) room, tt))))
 
   -- and with no step any k, with a skip of 0
-  pub none_allowed : len < c → windows_outcome bs o len c k 0 m ≡ Done
+  pub none_allowed : len < c → windows_outcome bs o len c k 0 m ≡ Ok tt
   unfolding windows_outcome
   none_allowed h =
       let e : 0 ≡ n = steps-none 1 len c 1 h in

@@ -2,9 +2,8 @@
 -- Assumes nothing.
 use Rattle.std.specs.Prelude.{Bool, false, ◌&&◌, ◌||◌, List, [], ◌∷◌, ◌++◌, ℕ, zero, suc, ◌+◌, ◌-◌, ◌*◌, ◌/◌, ◌%◌, min, ltb, length, get_or, drop, replicate}
 use Rattle.codes.specs.Codes.{pick, tab, chars}
-use Rattle.codes.specs.Refusals.{Test, Answer, answer, first, if_done, no_room, view_tests}
+use Rattle.codes.specs.Refusals.{Test, Answer, answer, first, if_done, no_room, view_tests, Outcome}
 use Rattle.codes.specs.Windows.{window}
-use Rattle.codes.specs.declared.refusals.Outcome.{Outcome}
 use Rattle.codes.specs.declared.refusals.Refusal.TheVariants.{BadStream, Partial}
 use Rattle.lanes.specs.Lanes.{lane, padding, steps, bad_shape, lane_char}
 use Rattle.streams.specs.Streams.{bad_step}

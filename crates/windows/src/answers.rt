@@ -1,6 +1,4 @@
 // The running state of flag windows, and what a step answers.
-use codes::refusals::Outcome;
-
 // Eight lane counts and the step.
 #[derive(Clone, Copy)]
 pub struct Windows {
@@ -13,5 +11,4 @@ pub struct Windows {
 pub struct Ran {
     pub answers: [u32; 8],
     pub state: Windows,
-    pub outcome: Outcome,
 }

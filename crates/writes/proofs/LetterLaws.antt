@@ -11,7 +11,7 @@ use Rattle.codes.specs.Codes.{char_at, letter, tab, chars}
 use Rattle.codes.specs.Made.{Made}
 use Rattle.codes.proofs.CharLaws.{char_at-at, char_at-lt}
 use Rattle.codes.proofs.MadeLaws.{made_more, made-to, made-is}
-use Rattle.codes.proofs.WidthLaws.{width_2}
+use Rattle.codes.specs.Widths.{width_2}
 use Rattle.writes.specs.Writes.{letter_at}
 
 pub map-tab : (h : ℕ → ℕ) (n : ℕ) (f : ℕ → ℕ) → map h (tab n f) ≡ tab n (λ i. h (f i))

@@ -2,9 +2,8 @@
 -- Assumes nothing.
 use Rattle.std.specs.Prelude.{List, [], ◌∷◌, ◌++◌, map, ℕ, ◌+◌, length, drop, replicate}
 use Rattle.codes.specs.Codes.{up, trailing, char_at, chars, letter}
-use Rattle.codes.specs.Refusals.{first, no_room, view_tests}
+use Rattle.codes.specs.Refusals.{first, no_room, view_tests, Outcome}
 use Rattle.codes.specs.Words.{packed}
-use Rattle.codes.specs.declared.refusals.Outcome.{Outcome}
 use Rattle.fields.specs.Fields.{flipped}
 
 -- the letter of base o + j

@@ -1,6 +1,5 @@
-// A view written out to a lent buffer: its letters, and its reverse complement; at width 2 in `bases`, at width 1 in `flags`.
+// A view written out to a lent buffer: its letters, and its reverse complement.
 #![tactic(auto)]
 
-pub mod bases;
-pub mod flags;
+pub mod calls;
 pub mod inner;

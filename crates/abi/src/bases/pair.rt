@@ -4,6 +4,7 @@ ghost use Rattle.given.specs.Face.{said, Part};
 ghost use Rattle.face.specs.Parts.{least_part};
 ghost use Rattle.order.specs.Order.{compared, found};
 
+use codes::widths::Bases;
 use face::inner::{pair, parts};
 
 #[unsafe(no_mangle)]
@@ -19,7 +20,7 @@ pub extern "C" fn tsiv_bases_compare(
 ) -> u32
     ensures { said result (order.new, common.new) ≡ compared 2 a.now ao al b.now bo bl }
 {
-    pair::compare(2, a, ao, al, b, bo, bl, order, common)
+    pair::compare::<Bases>(a, ao, al, b, bo, bl, order, common)
 }
 
 #[unsafe(no_mangle)]
@@ -35,7 +36,7 @@ pub extern "C" fn tsiv_bases_find(
 ) -> u32
     ensures { said result (there.new, place.new) ≡ found 2 text.now to tl pattern.now po pl }
 {
-    pair::find(2, text, to, tl, pattern, po, pl, there, place)
+    pair::find::<Bases>(text, to, tl, pattern, po, pl, there, place)
 }
 
 // The part of whichever view comes first, and whether that is the second.
@@ -56,8 +57,7 @@ pub extern "C" fn tsiv_bases_least(
     ensures { said {A = Bool × Part} result (second.new, (at.new, size.new, part_offset.new, part_len.new))
         ≡ least_part 2 a.now ao al b.now bo bl }
 {
-    parts::least(
-        2,
+    parts::least::<Bases>(
         a,
         ao,
         al,

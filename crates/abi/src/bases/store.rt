@@ -4,6 +4,7 @@ ghost use Rattle.given.specs.Face.{said};
 ghost use Rattle.stores.specs.Stores as Stores;
 ghost use Rattle.stores.specs.Stores.{answered, after};
 
+use codes::widths::Bases;
 use face::inner::store;
 
 #[unsafe(no_mangle)]
@@ -11,7 +12,7 @@ pub extern "C" fn tsiv_bases_clear(buffer: &mut [u8], len: &mut usize) -> u32
     ensures says { said result (0, 0, len.new) ≡ answered 2 (length buffer.old) 0 Stores.clear }
     ensures bytes { buffer.new ≡ after 2 buffer.old 0 Stores.clear }
 {
-    store::clear(2, buffer, len)
+    store::clear::<Bases>(buffer, len)
 }
 
 #[unsafe(no_mangle)]
@@ -26,7 +27,7 @@ pub extern "C" fn tsiv_bases_push_ascii(
         ≡ answered 2 (length buffer.old) len.old (Stores.push_ascii letters.now) }
     ensures bytes { buffer.new ≡ after 2 buffer.old len.old (Stores.push_ascii letters.now) }
 {
-    store::push_ascii(2, buffer, len, letters, start, end)
+    store::push_ascii::<Bases>(buffer, len, letters, start, end)
 }
 
 #[unsafe(no_mangle)]
@@ -43,7 +44,7 @@ pub extern "C" fn tsiv_bases_push_seq(
         ≡ answered 2 (length buffer.old) len.old (Stores.push_seq bytes.now offset count) }
     ensures bytes { buffer.new ≡ after 2 buffer.old len.old (Stores.push_seq bytes.now offset count) }
 {
-    store::push_seq(2, buffer, len, bytes, offset, count, start, end)
+    store::push_seq::<Bases>(buffer, len, bytes, offset, count, start, end)
 }
 
 #[unsafe(no_mangle)]
@@ -57,7 +58,7 @@ pub extern "C" fn tsiv_bases_overwrite(
         ≡ answered 2 (length buffer.old) len.old (Stores.overwrite start letters.now) }
     ensures bytes { buffer.new ≡ after 2 buffer.old len.old (Stores.overwrite start letters.now) }
 {
-    store::overwrite(2, buffer, len, start, letters)
+    store::overwrite::<Bases>(buffer, len, start, letters)
 }
 
 #[unsafe(no_mangle)]
@@ -65,5 +66,5 @@ pub extern "C" fn tsiv_bases_cut(buffer: &mut [u8], len: &mut usize, m: usize) -
     ensures says { said result (0, 0, len.new) ≡ answered 2 (length buffer.old) len.old (Stores.cut m) }
     ensures bytes { buffer.new ≡ after 2 buffer.old len.old (Stores.cut m) }
 {
-    store::cut(2, buffer, len, m)
+    store::cut::<Bases>(buffer, len, m)
 }

@@ -7,6 +7,7 @@ ghost use Rattle.fields.specs.Fields.{got, as_u64, as_u128, flipped_as_u64, flip
 ghost use Rattle.views.specs.Views.{got_sliced};
 ghost use Rattle.writes.specs.Writes.{unpack_outcome, unpacked_over, flip_outcome, flipped_over};
 
+use codes::widths::Bases;
 use face::inner::{parts, view};
 
 // The view itself, where it is accepted.
@@ -23,7 +24,7 @@ pub extern "C" fn tsiv_bases_view(
     ensures { said result (at.new, size.new, part_offset.new, part_len.new)
         ≡ made_part 2 bytes.now offset len }
 {
-    parts::made(2, bytes, offset, len, at, size, part_offset, part_len)
+    parts::made::<Bases>(bytes, offset, len, at, size, part_offset, part_len)
 }
 
 #[unsafe(no_mangle)]
@@ -41,8 +42,7 @@ pub extern "C" fn tsiv_bases_slice(
     ensures { said result (at.new, size.new, part_offset.new, part_len.new)
         ≡ sliced_part 2 bytes.now offset len start end }
 {
-    parts::sliced(
-        2,
+    parts::sliced::<Bases>(
         bytes,
         offset,
         len,
@@ -68,7 +68,7 @@ pub extern "C" fn tsiv_bases_normalise(
     ensures { said result (at.new, size.new, part_offset.new, part_len.new)
         ≡ normalised_part 2 bytes.now offset len }
 {
-    parts::normalised(2, bytes, offset, len, at, size, part_offset, part_len)
+    parts::normalised::<Bases>(bytes, offset, len, at, size, part_offset, part_len)
 }
 
 #[unsafe(no_mangle)]
@@ -81,7 +81,7 @@ pub extern "C" fn tsiv_bases_get(
 ) -> u32
     ensures { said result code.new ≡ got 2 bytes.now offset len i }
 {
-    view::get(2, bytes, offset, len, i, code)
+    view::get::<Bases>(bytes, offset, len, i, code)
 }
 
 #[unsafe(no_mangle)]
@@ -96,14 +96,14 @@ pub extern "C" fn tsiv_bases_get_sliced(
 ) -> u32
     ensures { said result code.new ≡ got_sliced 2 bytes.now offset len start end i }
 {
-    view::get_sliced(2, bytes, offset, len, start, end, i, code)
+    view::get_sliced::<Bases>(bytes, offset, len, start, end, i, code)
 }
 
 #[unsafe(no_mangle)]
 pub extern "C" fn tsiv_bases_as_u64(bytes: &[u8], offset: usize, len: usize, word: &mut u64) -> u32
     ensures { said result word.new ≡ as_u64 2 bytes.now offset len }
 {
-    view::as_u64(2, bytes, offset, len, word)
+    view::as_u64::<Bases>(bytes, offset, len, word)
 }
 
 #[unsafe(no_mangle)]
@@ -115,7 +115,7 @@ pub extern "C" fn tsiv_bases_revcomp_as_u64(
 ) -> u32
     ensures { said result word.new ≡ flipped_as_u64 2 bytes.now offset len }
 {
-    view::revcomp_as_u64(2, bytes, offset, len, word)
+    view::revcomp_as_u64::<Bases>(bytes, offset, len, word)
 }
 
 #[unsafe(no_mangle)]
@@ -128,7 +128,7 @@ pub extern "C" fn tsiv_bases_as_u128(
 ) -> u32
     ensures { said result (low.new, high.new) ≡ as_u128 2 bytes.now offset len }
 {
-    view::as_u128(2, bytes, offset, len, low, high)
+    view::as_u128::<Bases>(bytes, offset, len, low, high)
 }
 
 #[unsafe(no_mangle)]
@@ -141,7 +141,7 @@ pub extern "C" fn tsiv_bases_revcomp_as_u128(
 ) -> u32
     ensures { said result (low.new, high.new) ≡ flipped_as_u128 2 bytes.now offset len }
 {
-    view::revcomp_as_u128(2, bytes, offset, len, low, high)
+    view::revcomp_as_u128::<Bases>(bytes, offset, len, low, high)
 }
 
 #[unsafe(no_mangle)]
@@ -155,7 +155,7 @@ pub extern "C" fn tsiv_bases_to_revcomp(
     ensures bytes { out.new ≡ if_done (flip_outcome 2 bytes.now offset len out.old)
         (flipped_over 2 bytes.now offset len out.old) out.old }
 {
-    view::to_revcomp(2, bytes, offset, len, out)
+    view::to_revcomp::<Bases>(bytes, offset, len, out)
 }
 
 #[unsafe(no_mangle)]

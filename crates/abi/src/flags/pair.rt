@@ -4,6 +4,7 @@ ghost use Rattle.given.specs.Face.{said, Part};
 ghost use Rattle.face.specs.Parts.{least_part};
 ghost use Rattle.order.specs.Order.{compared, found};
 
+use codes::widths::Flags;
 use face::inner::{pair, parts};
 
 #[unsafe(no_mangle)]
@@ -19,7 +20,7 @@ pub extern "C" fn tsiv_flags_compare(
 ) -> u32
     ensures { said result (order.new, common.new) ≡ compared 1 a.now ao al b.now bo bl }
 {
-    pair::compare(1, a, ao, al, b, bo, bl, order, common)
+    pair::compare::<Flags>(a, ao, al, b, bo, bl, order, common)
 }
 
 #[unsafe(no_mangle)]
@@ -35,7 +36,7 @@ pub extern "C" fn tsiv_flags_find(
 ) -> u32
     ensures { said result (there.new, place.new) ≡ found 1 text.now to tl pattern.now po pl }
 {
-    pair::find(1, text, to, tl, pattern, po, pl, there, place)
+    pair::find::<Flags>(text, to, tl, pattern, po, pl, there, place)
 }
 
 // The part of whichever view comes first, and whether that is the second.
@@ -56,8 +57,7 @@ pub extern "C" fn tsiv_flags_least(
     ensures { said {A = Bool × Part} result (second.new, (at.new, size.new, part_offset.new, part_len.new))
         ≡ least_part 1 a.now ao al b.now bo bl }
 {
-    parts::least(
-        1,
+    parts::least::<Flags>(
         a,
         ao,
         al,

@@ -4,6 +4,7 @@ ghost use Rattle.given.specs.Face.{said};
 ghost use Rattle.stores.specs.Stores as Stores;
 ghost use Rattle.stores.specs.Stores.{answered, after};
 
+use codes::widths::Flags;
 use face::inner::store;
 
 #[unsafe(no_mangle)]
@@ -11,7 +12,7 @@ pub extern "C" fn tsiv_flags_clear(buffer: &mut [u8], len: &mut usize) -> u32
     ensures says { said result (0, 0, len.new) ≡ answered 1 (length buffer.old) 0 Stores.clear }
     ensures bytes { buffer.new ≡ after 1 buffer.old 0 Stores.clear }
 {
-    store::clear(1, buffer, len)
+    store::clear::<Flags>(buffer, len)
 }
 
 #[unsafe(no_mangle)]
@@ -26,7 +27,7 @@ pub extern "C" fn tsiv_flags_push_ascii(
         ≡ answered 1 (length buffer.old) len.old (Stores.push_ascii letters.now) }
     ensures bytes { buffer.new ≡ after 1 buffer.old len.old (Stores.push_ascii letters.now) }
 {
-    store::push_ascii(1, buffer, len, letters, start, end)
+    store::push_ascii::<Flags>(buffer, len, letters, start, end)
 }
 
 #[unsafe(no_mangle)]
@@ -43,7 +44,7 @@ pub extern "C" fn tsiv_flags_push_seq(
         ≡ answered 1 (length buffer.old) len.old (Stores.push_seq bytes.now offset count) }
     ensures bytes { buffer.new ≡ after 1 buffer.old len.old (Stores.push_seq bytes.now offset count) }
 {
-    store::push_seq(1, buffer, len, bytes, offset, count, start, end)
+    store::push_seq::<Flags>(buffer, len, bytes, offset, count, start, end)
 }
 
 #[unsafe(no_mangle)]
@@ -57,7 +58,7 @@ pub extern "C" fn tsiv_flags_overwrite(
         ≡ answered 1 (length buffer.old) len.old (Stores.overwrite start letters.now) }
     ensures bytes { buffer.new ≡ after 1 buffer.old len.old (Stores.overwrite start letters.now) }
 {
-    store::overwrite(1, buffer, len, start, letters)
+    store::overwrite::<Flags>(buffer, len, start, letters)
 }
 
 #[unsafe(no_mangle)]
@@ -65,5 +66,5 @@ pub extern "C" fn tsiv_flags_cut(buffer: &mut [u8], len: &mut usize, m: usize) -
     ensures says { said result (0, 0, len.new) ≡ answered 1 (length buffer.old) len.old (Stores.cut m) }
     ensures bytes { buffer.new ≡ after 1 buffer.old len.old (Stores.cut m) }
 {
-    store::cut(1, buffer, len, m)
+    store::cut::<Flags>(buffer, len, m)
 }

@@ -4,6 +4,7 @@ ghost use Rattle.codes.specs.Refusals.{number_of};
 ghost use Rattle.given.specs.Face.{said};
 ghost use Rattle.streams.specs.Streams.{shaped, fill_answer, fill_after, step_outcome, step_lanes};
 
+use codes::widths::Flags;
 use face::inner::stream;
 
 #[unsafe(no_mangle)]
@@ -17,7 +18,7 @@ pub extern "C" fn tsiv_flags_shape(
 ) -> u32
     ensures { said result (lane.new, steps.new, padding.new) ≡ shaped 1 len context factor }
 {
-    stream::shape(1, len, context, factor, lane, steps, padding)
+    stream::shape::<Flags>(len, context, factor, lane, steps, padding)
 }
 
 #[unsafe(no_mangle)]
@@ -36,7 +37,7 @@ pub extern "C" fn tsiv_flags_fill(
     ensures out { out.new
         ≡ fill_after 1 bytes.now offset len context factor 0 0 (length out.old ∷ []) 0 out.old }
 {
-    stream::fill(1, bytes, offset, len, context, factor, out, steps, padding)
+    stream::fill::<Flags>(bytes, offset, len, context, factor, out, steps, padding)
 }
 
 #[unsafe(no_mangle)]
@@ -59,8 +60,8 @@ pub extern "C" fn tsiv_flags_fill_delayed(
     ensures delayed { delayed.new ≡ fill_after 1 bytes.now offset len context factor delay delay
         (length out.old ∷ length delayed.old ∷ []) delay delayed.old }
 {
-    stream::fill_delayed(
-        1, bytes, offset, len, context, factor, delay, out, delayed, steps, padding,
+    stream::fill_delayed::<Flags>(
+        bytes, offset, len, context, factor, delay, out, delayed, steps, padding,
     )
 }
 
@@ -88,8 +89,8 @@ pub extern "C" fn tsiv_flags_fill_delayed_2(
     ensures out2 { out2.new ≡ fill_after 1 bytes.now offset len context factor first second
         (length out.old ∷ length out1.old ∷ length out2.old ∷ []) second out2.old }
 {
-    stream::fill_delayed_2(
-        1, bytes, offset, len, context, factor, first, second, out, out1, out2, steps, padding,
+    stream::fill_delayed_2::<Flags>(
+        bytes, offset, len, context, factor, first, second, out, out1, out2, steps, padding,
     )
 }
 
@@ -106,7 +107,7 @@ pub extern "C" fn tsiv_flags_step(
     ensures number { result ≡ number_of (step_outcome 1 bytes.now offset len context factor 0 0 j) }
     ensures lanes { lanes.new ≡ step_lanes 1 bytes.now offset len context factor 0 0 j 0 }
 {
-    stream::step(1, bytes, offset, len, context, factor, j, lanes)
+    stream::step::<Flags>(bytes, offset, len, context, factor, j, lanes)
 }
 
 #[unsafe(no_mangle)]
@@ -125,9 +126,7 @@ pub extern "C" fn tsiv_flags_step_delayed(
     ensures lanes { lanes.new ≡ step_lanes 1 bytes.now offset len context factor delay delay j 0 }
     ensures lanes1 { lanes1.new ≡ step_lanes 1 bytes.now offset len context factor delay delay j delay }
 {
-    stream::step_delayed(
-        1, bytes, offset, len, context, factor, delay, j, lanes, lanes1,
-    )
+    stream::step_delayed::<Flags>(bytes, offset, len, context, factor, delay, j, lanes, lanes1)
 }
 
 #[unsafe(no_mangle)]
@@ -149,7 +148,7 @@ pub extern "C" fn tsiv_flags_step_delayed_2(
     ensures lanes1 { lanes1.new ≡ step_lanes 1 bytes.now offset len context factor first second j first }
     ensures lanes2 { lanes2.new ≡ step_lanes 1 bytes.now offset len context factor first second j second }
 {
-    stream::step_delayed_2(
-        1, bytes, offset, len, context, factor, first, second, j, lanes, lanes1, lanes2,
+    stream::step_delayed_2::<Flags>(
+        bytes, offset, len, context, factor, first, second, j, lanes, lanes1, lanes2,
     )
 }

@@ -7,6 +7,7 @@ ghost use Rattle.fields.specs.Fields.{got, as_u64, as_u128, flipped_as_u64, flip
 ghost use Rattle.views.specs.Views.{got_sliced};
 ghost use Rattle.writes.specs.Writes.{flip_outcome, flipped_over};
 
+use codes::widths::Flags;
 use face::inner::{parts, view};
 
 // The view itself, where it is accepted.
@@ -23,7 +24,7 @@ pub extern "C" fn tsiv_flags_view(
     ensures { said result (at.new, size.new, part_offset.new, part_len.new)
         ≡ made_part 1 bytes.now offset len }
 {
-    parts::made(1, bytes, offset, len, at, size, part_offset, part_len)
+    parts::made::<Flags>(bytes, offset, len, at, size, part_offset, part_len)
 }
 
 #[unsafe(no_mangle)]
@@ -41,8 +42,7 @@ pub extern "C" fn tsiv_flags_slice(
     ensures { said result (at.new, size.new, part_offset.new, part_len.new)
         ≡ sliced_part 1 bytes.now offset len start end }
 {
-    parts::sliced(
-        1,
+    parts::sliced::<Flags>(
         bytes,
         offset,
         len,
@@ -68,7 +68,7 @@ pub extern "C" fn tsiv_flags_normalise(
     ensures { said result (at.new, size.new, part_offset.new, part_len.new)
         ≡ normalised_part 1 bytes.now offset len }
 {
-    parts::normalised(1, bytes, offset, len, at, size, part_offset, part_len)
+    parts::normalised::<Flags>(bytes, offset, len, at, size, part_offset, part_len)
 }
 
 #[unsafe(no_mangle)]
@@ -81,7 +81,7 @@ pub extern "C" fn tsiv_flags_get(
 ) -> u32
     ensures { said result code.new ≡ got 1 bytes.now offset len i }
 {
-    view::get(1, bytes, offset, len, i, code)
+    view::get::<Flags>(bytes, offset, len, i, code)
 }
 
 #[unsafe(no_mangle)]
@@ -96,14 +96,14 @@ pub extern "C" fn tsiv_flags_get_sliced(
 ) -> u32
     ensures { said result code.new ≡ got_sliced 1 bytes.now offset len start end i }
 {
-    view::get_sliced(1, bytes, offset, len, start, end, i, code)
+    view::get_sliced::<Flags>(bytes, offset, len, start, end, i, code)
 }
 
 #[unsafe(no_mangle)]
 pub extern "C" fn tsiv_flags_as_u64(bytes: &[u8], offset: usize, len: usize, word: &mut u64) -> u32
     ensures { said result word.new ≡ as_u64 1 bytes.now offset len }
 {
-    view::as_u64(1, bytes, offset, len, word)
+    view::as_u64::<Flags>(bytes, offset, len, word)
 }
 
 #[unsafe(no_mangle)]
@@ -115,7 +115,7 @@ pub extern "C" fn tsiv_flags_revcomp_as_u64(
 ) -> u32
     ensures { said result word.new ≡ flipped_as_u64 1 bytes.now offset len }
 {
-    view::revcomp_as_u64(1, bytes, offset, len, word)
+    view::revcomp_as_u64::<Flags>(bytes, offset, len, word)
 }
 
 #[unsafe(no_mangle)]
@@ -128,7 +128,7 @@ pub extern "C" fn tsiv_flags_as_u128(
 ) -> u32
     ensures { said result (low.new, high.new) ≡ as_u128 1 bytes.now offset len }
 {
-    view::as_u128(1, bytes, offset, len, low, high)
+    view::as_u128::<Flags>(bytes, offset, len, low, high)
 }
 
 #[unsafe(no_mangle)]
@@ -141,7 +141,7 @@ pub extern "C" fn tsiv_flags_revcomp_as_u128(
 ) -> u32
     ensures { said result (low.new, high.new) ≡ flipped_as_u128 1 bytes.now offset len }
 {
-    view::revcomp_as_u128(1, bytes, offset, len, low, high)
+    view::revcomp_as_u128::<Flags>(bytes, offset, len, low, high)
 }
 
 #[unsafe(no_mangle)]
@@ -155,5 +155,5 @@ pub extern "C" fn tsiv_flags_to_revcomp(
     ensures bytes { out.new ≡ if_done (flip_outcome 1 bytes.now offset len out.old)
         (flipped_over 1 bytes.now offset len out.old) out.old }
 {
-    view::to_revcomp(1, bytes, offset, len, out)
+    view::to_revcomp::<Flags>(bytes, offset, len, out)
 }

@@ -2,6 +2,7 @@
 use crate::inner::numbers::{chars, word};
 use crate::inner::print;
 use codes::units::Chars;
+use codes::widths::{Bases, Flags};
 use codes::{letters, words};
 use std::io;
 use std::io::Write;
@@ -24,16 +25,16 @@ pub fn run<W: Write>(
 
 // A byte's strict and lossy code, its flag and its complement.
 fn letter<W: Write>(to: &mut W, b: u8) -> io::Result<()> {
-    print::symbol(to, letters::pack_char(b))?;
+    print::word(to, letters::pack_char(b))?;
     print::byte(to, letters::pack_char_lossy(b))?;
     print::byte(to, letters::char_is_ambiguous(b))?;
-    print::symbol(to, letters::complement_char(b))
+    print::word(to, letters::complement_char(b))
 }
 
 // A code's letter and its complement.
 fn code<W: Write>(to: &mut W, c: u8) -> io::Result<()> {
-    print::symbol(to, letters::unpack_base(c))?;
-    print::symbol(to, letters::complement_base(c))
+    print::word(to, letters::unpack_base(c))?;
+    print::word(to, letters::complement_base(c))
 }
 
 // The calls on a word of k characters, or on the two words x and y as one.
@@ -54,10 +55,10 @@ fn of_words<W: Write>(
             print::outcome(to, words::unpack_kmer_u128(x, y, k, out))?;
             print::bytes(to, out)
         }
-        24 => print::word(to, words::revcomp_u64(x, k)),
-        25 => print::word128(to, words::revcomp_u128(x, y, k)),
-        26 => print::word(to, words::rev_u64(x, k)),
-        27 => print::word128(to, words::rev_u128(x, y, k)),
+        24 => print::word(to, words::rev_u64::<Bases>(x, k)),
+        25 => print::word128(to, words::rev_u128::<Bases>(x, y, k)),
+        26 => print::word(to, words::rev_u64::<Flags>(x, k)),
+        27 => print::word128(to, words::rev_u128::<Flags>(x, y, k)),
         _ => Ok(())
     }
 }

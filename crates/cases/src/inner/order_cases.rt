@@ -2,7 +2,8 @@
 use crate::inner::numbers::chars;
 use crate::inner::print;
 use codes::units::Chars;
-use order::{bases, flags};
+use codes::widths::{Bases, Flags, Width};
+use order::calls;
 use std::io;
 use std::io::Write;
 
@@ -18,14 +19,14 @@ pub fn run<'a, W: Write>(
     let bo = chars(line, 4);
     let bl = chars(line, 5);
     if line[1] == 2 {
-        of_bases(to, call, a, ao, al, b, bo, bl)
+        at::<Bases, _>(to, call, a, ao, al, b, bo, bl)
     } else {
-        of_flags(to, call, a, ao, al, b, bo, bl)
+        at::<Flags, _>(to, call, a, ao, al, b, bo, bl)
     }
 }
 
-fn of_bases<'a, W: Write>(
-    to: &mut W,
+fn at<'a, W: Width, T: Write>(
+    to: &mut T,
     call: u64,
     a: &'a [u8],
     ao: Chars,
@@ -35,32 +36,11 @@ fn of_bases<'a, W: Write>(
     bl: Chars,
 ) -> io::Result<()> {
     match call {
-        40 => print::compared(to, bases::compare(a, ao, al, b, bo, bl)),
-        43 => print::found(to, bases::find(b, bo, bl, a, ao, al)),
+        40 => print::compared(to, calls::compare::<W>(a, ao, al, b, bo, bl)),
+        43 => print::found(to, calls::find::<W>(b, bo, bl, a, ao, al)),
         44 => {
-            print::least(to, bases::least_numbers(a, ao, al, b, bo, bl))?;
-            print::bytes(to, bases::least(a, ao, al, b, bo, bl))
-        }
-        _ => Ok(())
-    }
-}
-
-fn of_flags<'a, W: Write>(
-    to: &mut W,
-    call: u64,
-    a: &'a [u8],
-    ao: Chars,
-    al: Chars,
-    b: &'a [u8],
-    bo: Chars,
-    bl: Chars,
-) -> io::Result<()> {
-    match call {
-        40 => print::compared(to, flags::compare(a, ao, al, b, bo, bl)),
-        43 => print::found(to, flags::find(b, bo, bl, a, ao, al)),
-        44 => {
-            print::least(to, flags::least_numbers(a, ao, al, b, bo, bl))?;
-            print::bytes(to, flags::least(a, ao, al, b, bo, bl))
+            print::least(to, calls::least_numbers::<W>(a, ao, al, b, bo, bl))?;
+            print::bytes(to, calls::least::<W>(a, ao, al, b, bo, bl))
         }
         _ => Ok(())
     }

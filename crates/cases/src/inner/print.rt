@@ -1,12 +1,13 @@
 // An answer as a line of numbers: the refusal number, then the others.
-use codes::letters::Symbol;
-use codes::refusals::{Outcome, Refusal};
+use codes::inner::bits::Pair;
+use codes::refusals::{Refusal, number_of};
 use codes::units::Chars;
-use codes::words::{Word, Word128};
-use order::answers::{Compared, Found, Least, Order};
+use fields::inner::parts::Numbers;
+use order::answers::Compared;
+use std::cmp::Ordering;
 use std::io;
 use std::io::Write;
-use stores::answers::{Kept, Pushed};
+use stores::answers::{Pushed, Unchanged};
 use streams::answers::Filled;
 
 pub(crate) fn number<W: Write>(to: &mut W, n: u64) -> io::Result<()> {
@@ -39,20 +40,16 @@ pub fn end<W: Write>(to: &mut W) -> io::Result<()> {
 
 // The bytes of a buffer, each a number.
 pub fn bytes<W: Write>(to: &mut W, s: &[u8]) -> io::Result<()> {
-    for i in 0..s.len() {
-        byte(to, s[i])?;
+    for b in s {
+        byte(to, *b)?;
     }
     Ok(())
 }
 
 // The first n entries of a stream.
 pub fn entries<W: Write>(to: &mut W, s: &[u32; 512], n: usize) -> io::Result<()> {
-    let mut i = 0;
-    while i < n {
-        if i < 512 {
-            entry(to, s[i])?;
-        }
-        i += 1;
+    for x in s.iter().take(n) {
+        entry(to, *x)?;
     }
     Ok(())
 }
@@ -61,123 +58,120 @@ fn entry<W: Write>(to: &mut W, x: u32) -> io::Result<()> {
     number(to, x as u64)
 }
 
-pub(crate) fn symbol<W: Write>(to: &mut W, s: Symbol) -> io::Result<()> {
-    match s {
-        Symbol::Is(x) => {
+// One number.
+pub(crate) fn word<W: Write, T: Into<u64> + Copy>(
+    to: &mut W,
+    answer: Result<T, Refusal>,
+) -> io::Result<()> {
+    match answer {
+        Ok(x) => {
             byte(to, 0)?;
-            byte(to, x)
+            number(to, x.into())
         }
-        Symbol::Refused(r) => refused_one(to, r),
+        Err(r) => refused_one(to, r),
     }
 }
 
-pub(crate) fn word<W: Write>(to: &mut W, w: Word) -> io::Result<()> {
-    match w {
-        Word::Is(x) => {
+pub(crate) fn word128<W: Write>(to: &mut W, answer: Result<Pair, Refusal>) -> io::Result<()> {
+    match answer {
+        Ok(pair) => {
             byte(to, 0)?;
-            number(to, x)
+            number(to, pair.low)?;
+            number(to, pair.high)
         }
-        Word::Refused(r) => refused_one(to, r),
+        Err(r) => refused_two(to, r),
     }
 }
 
-pub(crate) fn word128<W: Write>(to: &mut W, w: Word128) -> io::Result<()> {
-    match w {
-        Word128::Is { low, high } => {
-            byte(to, 0)?;
-            number(to, low)?;
-            number(to, high)
-        }
-        Word128::Refused(r) => refused_two(to, r),
-    }
-}
-
-pub(crate) fn outcome<W: Write>(to: &mut W, o: Outcome) -> io::Result<()> {
-    byte(to, o.number())
+pub(crate) fn outcome<W: Write>(to: &mut W, o: Result<(), Refusal>) -> io::Result<()> {
+    byte(to, number_of(o))
 }
 
 // 0 for less, 1 for equal, 2 for greater.
-fn order<W: Write>(to: &mut W, o: Order) -> io::Result<()> {
+fn order<W: Write>(to: &mut W, o: Ordering) -> io::Result<()> {
     match o {
-        Order::Less => byte(to, 0),
-        Order::Equal => byte(to, 1),
-        Order::Greater => byte(to, 2),
+        Ordering::Less => byte(to, 0),
+        Ordering::Equal => byte(to, 1),
+        Ordering::Greater => byte(to, 2),
     }
 }
 
-pub(crate) fn compared<W: Write>(to: &mut W, c: Compared) -> io::Result<()> {
-    match c {
-        Compared::Is(o, n) => {
+pub(crate) fn compared<W: Write>(to: &mut W, answer: Result<Compared, Refusal>) -> io::Result<()> {
+    match answer {
+        Ok(c) => {
             byte(to, 0)?;
-            order(to, o)?;
-            count(to, n)
+            order(to, c.order)?;
+            count(to, c.common)
         }
-        Compared::Refused(r) => refused_two(to, r),
+        Err(r) => refused_two(to, r),
     }
 }
 
-pub(crate) fn found<W: Write>(to: &mut W, f: Found) -> io::Result<()> {
-    match f {
-        Found::At(place) => {
+pub(crate) fn found<W: Write>(
+    to: &mut W,
+    answer: Result<Option<Chars>, Refusal>,
+) -> io::Result<()> {
+    match answer {
+        Ok(Some(place)) => {
             byte(to, 0)?;
             byte(to, 1)?;
             count(to, place)
         }
-        Found::Absent => {
+        Ok(None) => {
             byte(to, 0)?;
             byte(to, 0)?;
             byte(to, 0)
         }
-        Found::Refused(r) => refused_two(to, r),
+        Err(r) => refused_two(to, r),
     }
 }
 
-pub(crate) fn least<W: Write>(to: &mut W, l: Least) -> io::Result<()> {
-    match l {
-        Least::Is(offset, len) => {
+pub(crate) fn least<W: Write>(to: &mut W, answer: Result<Numbers, Refusal>) -> io::Result<()> {
+    match answer {
+        Ok(numbers) => {
             byte(to, 0)?;
-            count(to, offset)?;
-            count(to, len)
+            count(to, numbers.offset)?;
+            count(to, numbers.len)
         }
-        Least::Refused(r) => refused_two(to, r),
+        Err(r) => refused_two(to, r),
     }
 }
 
-pub fn pushed<W: Write>(to: &mut W, p: Pushed) -> io::Result<()> {
-    match p {
-        Pushed::Done { start, end } => {
+pub fn pushed<W: Write>(to: &mut W, answer: Result<Pushed, Unchanged>) -> io::Result<()> {
+    match answer {
+        Ok(p) => {
             byte(to, 0)?;
-            count(to, start)?;
-            count(to, end)?;
-            count(to, end)
+            count(to, p.start)?;
+            count(to, p.end)?;
+            count(to, p.end)
         }
-        Pushed::Refused { refusal, len } => {
-            refused_two(to, refusal)?;
-            count(to, len)
-        }
-    }
-}
-
-pub fn kept<W: Write>(to: &mut W, k: Kept) -> io::Result<()> {
-    match k {
-        Kept::Done { len } => {
-            byte(to, 0)?;
-            count(to, len)
-        }
-        Kept::Refused { refusal, len } => {
-            byte(to, refusal.number())?;
-            count(to, len)
+        Err(u) => {
+            refused_two(to, u.refusal)?;
+            count(to, u.len)
         }
     }
 }
 
-pub fn filled<W: Write>(to: &mut W, f: Filled) -> io::Result<()> {
-    match f {
-        Filled::Is { steps, padding } => {
+pub fn kept<W: Write>(to: &mut W, answer: Result<Chars, Unchanged>) -> io::Result<()> {
+    match answer {
+        Ok(len) => {
             byte(to, 0)?;
-            number(to, steps as u64)?;
-            count(to, padding)
+            count(to, len)
         }
-        Filled::Refused(r) => refused_two(to, r),
+        Err(u) => {
+            byte(to, u.refusal.number())?;
+            count(to, u.len)
+        }
+    }
+}
+
+pub fn filled<W: Write>(to: &mut W, answer: Result<Filled, Refusal>) -> io::Result<()> {
+    match answer {
+        Ok(f) => {
+            byte(to, 0)?;
+            number(to, f.steps as u64)?;
+            count(to, f.padding)
+        }
+        Err(r) => refused_two(to, r),
     }
 }

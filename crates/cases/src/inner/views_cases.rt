@@ -2,10 +2,12 @@
 use crate::inner::numbers::chars;
 use crate::inner::print;
 use codes::units::Chars;
+use codes::widths::{Bases, Flags, Width};
 use fields::inner::parts::get_at;
 use std::io;
 use std::io::Write;
-use views::{bases, flags};
+use views::calls;
+use writes::calls::{to_revcomp, unpack};
 
 pub fn run<W: Write>(
     to: &mut W,
@@ -29,13 +31,13 @@ fn reverse<W: Write>(
 ) -> io::Result<()> {
     let o = chars(line, 2);
     let n = chars(line, 3);
-    if line[1] == 2 {
-        print::outcome(to, writes::bases::to_revcomp(bytes, o, n, out))?;
-        print::bytes(to, out)
+    let outcome = if line[1] == 2 {
+        to_revcomp::<Bases>(bytes, o, n, out)
     } else {
-        print::outcome(to, writes::flags::to_revcomp(bytes, o, n, out))?;
-        print::bytes(to, out)
-    }
+        to_revcomp::<Flags>(bytes, o, n, out)
+    };
+    print::outcome(to, outcome)?;
+    print::bytes(to, out)
 }
 
 fn letters<W: Write>(
@@ -44,10 +46,8 @@ fn letters<W: Write>(
     bytes: &[u8],
     out: &mut [u8],
 ) -> io::Result<()> {
-    print::outcome(
-        to,
-        writes::bases::unpack(bytes, chars(line, 1), chars(line, 2), out),
-    )?;
+    let outcome = unpack(bytes, chars(line, 1), chars(line, 2), out);
+    print::outcome(to, outcome)?;
     print::bytes(to, out)
 }
 
@@ -55,14 +55,14 @@ fn read<W: Write>(to: &mut W, call: u64, line: &[u64; 512], bytes: &[u8]) -> io:
     let o = chars(line, 2);
     let n = chars(line, 3);
     if line[1] == 2 {
-        of_bases(to, call, line, bytes, o, n)
+        at::<Bases, _>(to, call, line, bytes, o, n)
     } else {
-        of_flags(to, call, line, bytes, o, n)
+        at::<Flags, _>(to, call, line, bytes, o, n)
     }
 }
 
-fn of_bases<W: Write>(
-    to: &mut W,
+fn at<W: Width, T: Write>(
+    to: &mut T,
     call: u64,
     line: &[u64; 512],
     bytes: &[u8],
@@ -70,37 +70,15 @@ fn of_bases<W: Write>(
     n: Chars,
 ) -> io::Result<()> {
     match call {
-        31 => print::symbol(to, get_at(2, bytes, o, n, chars(line, 4))),
-        32 => print::symbol(
+        31 => print::word(to, get_at::<W>(bytes, o, n, chars(line, 4))),
+        32 => print::word(
             to,
-            bases::get_sliced(bytes, o, n, chars(line, 4), chars(line, 5), chars(line, 6)),
+            calls::get_sliced::<W>(bytes, o, n, chars(line, 4), chars(line, 5), chars(line, 6)),
         ),
-        34 => print::word(to, bases::as_u64(bytes, o, n)),
-        35 => print::word128(to, bases::as_u128(bytes, o, n)),
-        36 => print::word(to, bases::revcomp_as_u64(bytes, o, n)),
-        37 => print::word128(to, bases::revcomp_as_u128(bytes, o, n)),
-        _ => Ok(())
-    }
-}
-
-fn of_flags<W: Write>(
-    to: &mut W,
-    call: u64,
-    line: &[u64; 512],
-    bytes: &[u8],
-    o: Chars,
-    n: Chars,
-) -> io::Result<()> {
-    match call {
-        31 => print::symbol(to, get_at(1, bytes, o, n, chars(line, 4))),
-        32 => print::symbol(
-            to,
-            flags::get_sliced(bytes, o, n, chars(line, 4), chars(line, 5), chars(line, 6)),
-        ),
-        34 => print::word(to, flags::as_u64(bytes, o, n)),
-        35 => print::word128(to, flags::as_u128(bytes, o, n)),
-        36 => print::word(to, flags::revcomp_as_u64(bytes, o, n)),
-        37 => print::word128(to, flags::revcomp_as_u128(bytes, o, n)),
-        _ => Ok(())
+        34 => print::word(to, calls::as_u64::<W>(bytes, o, n)),
+        35 => print::word128(to, calls::as_u128::<W>(bytes, o, n)),
+        36 => print::word(to, calls::revcomp_as_u64::<W>(bytes, o, n)),
+        37 => print::word128(to, calls::revcomp_as_u128::<W>(bytes, o, n)),
+        _ => Ok(()),
     }
 }

@@ -1,29 +1,14 @@
 // The tests of the refusal table that more than one call makes.
 ghost use Rattle.std.specs.Prelude.{[], ◌∷◌, ◌≡◌, ◌^◌, ◌≤◌};
-ghost use Rattle.codes.specs.Codes.{IsWidth};
 ghost use Rattle.codes.specs.Refusals.{first, if_done, too_long, bad_store, bad_view, bad_word};
 
-use crate::inner::counts::{bytes_for, chars_in};
-use crate::refusals::{Outcome, Refusal};
+use crate::inner::counts::chars_in;
+use crate::refusals::Refusal;
 use crate::units::{Bytes, Chars, TRAILING};
+use crate::widths::Width;
 
 // The most bytes of a view, a store's buffer or a stored form to be read.
 const MOST: usize = 0x1000_0000;
-
-// The next test of a row: it counts where none before it holds.
-pub fn refuse_if(outcome: Outcome, holds: bool, refusal: Refusal) -> Outcome
-    ensures { result ≡ if_done outcome (first ((holds, refusal) ∷ [])) outcome }
-{
-    match outcome {
-        Outcome::Refused(earlier) => Outcome::Refused(earlier),
-        Outcome::Done => {
-            if holds {
-                return Outcome::Refused(refusal);
-            }
-            Outcome::Done
-        }
-    }
-}
 
 // Whether n bytes are too many.
 pub fn too_long(n: usize) -> bool
@@ -33,26 +18,24 @@ pub fn too_long(n: usize) -> bool
 }
 
 // Whether a store of len characters and 48 bytes behind do not fit n bytes.
-pub fn bad_store(w: usize, n: usize, len: Chars) -> bool
-    requires { IsWidth w }
-    ensures { result ≡ (bad_store w n len.0).0 }
+pub fn bad_store<W: Width>(n: usize, len: Chars) -> bool
+    ensures { result ≡ (bad_store W.BITS n len.0).0 }
 {
     if n < TRAILING {
         return true;
     }
-    n - TRAILING < bytes_for(w, len).count()
+    n - TRAILING < len.bytes_as::<W>().count()
 }
 
 // Whether a view's characters and 48 bytes behind do not fit its n bytes.
-pub fn bad_view(w: usize, n: usize, offset: Chars, len: Chars) -> bool
-    requires width { IsWidth w }
-    requires n_bound { n ≤ 2 ^ 28 }
-    ensures { result ≡ (bad_view w n offset.0 len.0).0 }
+pub fn bad_view<W: Width>(n: usize, offset: Chars, len: Chars) -> bool
+    requires { n ≤ 2 ^ 28 }
+    ensures { result ≡ (bad_view W.BITS n offset.0 len.0).0 }
 {
     if n < TRAILING {
         return true;
     }
-    let room = chars_in(w, Bytes::new(n - TRAILING)).count();
+    let room = chars_in::<W>(Bytes::new(n - TRAILING)).count();
     let o = offset.count();
     if room < o {
         return true;

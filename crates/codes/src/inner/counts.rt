@@ -1,78 +1,62 @@
 // Between characters, bytes and bits, at any width. A width is a power of two, so all goes by shifts.
 ghost use Rattle.std.specs.Prelude.{◌≡◌, ◌*◌, ◌/◌, ◌%◌, ◌^◌, ◌≤◌};
-ghost use Rattle.codes.specs.Codes.{IsWidth, per, up};
+ghost use Rattle.codes.specs.Codes.{per};
 
 use crate::units::{Bytes, Chars};
+use crate::widths::Width;
 
 // The power of two that C8 is.
-pub fn power(w: usize) -> usize
-    requires { IsWidth w }
-    ensures { (2 ^ result ≡ per w) × (result ≤ 3) }
+pub fn power<W: Width>() -> usize
+    ensures { (2 ^ result ≡ per W.BITS) × (result ≤ 3) }
 {
-    3 - w / 2
+    3 - W::BITS / 2
 }
 
 // C8 as a number.
-fn eighth(w: usize) -> usize
-    requires { IsWidth w }
-    ensures { result ≡ per w }
+pub(crate) fn eighth<W: Width>() -> usize
+    ensures { result ≡ per W.BITS }
 {
-    1 << power(w)
+    1 << power::<W>()
 }
 
 // C8, the characters of a byte.
-pub fn per_byte(w: usize) -> Chars
-    requires { IsWidth w }
-    ensures { result.0 ≡ per w }
+pub fn per_byte<W: Width>() -> Chars
+    ensures { result.0 ≡ per W.BITS }
 {
-    Chars::new(eighth(w))
-}
-
-// The bytes that n characters take.
-pub fn bytes_for(w: usize, n: Chars) -> Bytes
-    requires { IsWidth w }
-    ensures { result.0 ≡ up w n.0 }
-{
-    let c = eighth(w);
-    let k = n.count();
-    Bytes::new(k / c + (k % c + (c - 1)) / c)
+    Chars::new(eighth::<W>())
 }
 
 // The characters of n bytes.
-pub fn chars_in(w: usize, n: Bytes) -> Chars
-    requires width { IsWidth w }
-    requires n_bound { n.0 ≤ 2 ^ 28 }
-    ensures { result.0 ≡ n.0 * per w }
+pub fn chars_in<W: Width>(n: Bytes) -> Chars
+    requires { n.0 ≤ 2 ^ 28 }
+    ensures { result.0 ≡ n.0 * per W.BITS }
 {
-    let c = eighth(w);
+    let c = eighth::<W>();
     let k = n.count();
     Chars::new(k * c)
 }
 
 // The byte in which a character stands.
-pub fn byte_of(w: usize, at: Chars) -> Bytes
-    requires { IsWidth w }
-    ensures { result.0 ≡ at.0 / per w }
+pub fn byte_of<W: Width>(at: Chars) -> Bytes
+    ensures { result.0 ≡ at.0 / per W.BITS }
 {
-    let c = eighth(w);
+    let c = eighth::<W>();
     let k = at.count();
     Bytes::new(k / c)
 }
 
 // A character's place in its byte.
-pub fn within_byte(w: usize, at: Chars) -> Chars
-    requires { IsWidth w }
-    ensures { result.0 ≡ at.0 % per w }
+pub fn within_byte<W: Width>(at: Chars) -> Chars
+    ensures { result.0 ≡ at.0 % per W.BITS }
 {
-    let c = eighth(w);
+    let c = eighth::<W>();
     let k = at.count();
     Chars::new(k % c)
 }
 
 // The characters that n bits hold.
-pub fn over_width(w: usize, n: usize) -> usize
-    requires { IsWidth w }
-    ensures { result ≡ n / w }
+pub fn over_width<W: Width>(n: usize) -> usize
+    ensures { result ≡ n / W.BITS }
 {
-    n >> (w / 2)
+    n >> (W::BITS / 2)
 }

@@ -5,7 +5,7 @@ ghost use Rattle.codes.specs.Refusals.{first, if_done, bad_word, no_room};
 ghost use Rattle.codes.specs.Words.{word, chars_of};
 
 use crate::inner::bits::wide;
-use crate::refusals::{Outcome, Refusal};
+use crate::refusals::Refusal;
 use crate::units::Chars;
 
 // The word of at most 32 letters.
@@ -14,10 +14,8 @@ pub(crate) fn pack(letters: &[u8]) -> u64
     ensures { result ≡ word 2 (map lossy letters.now) }
 {
     let mut out: u64 = 0;
-    let mut i = letters.len();
-    while 0 < i {
-        i -= 1;
-        out = out * 4 + wide(letters[i]) / 2 % 4;
+    for letter in letters.iter().rev() {
+        out = out * 4 + wide(*letter) / 2 % 4;
     }
     out
 }
@@ -37,12 +35,9 @@ pub(crate) fn unpack(x: u64, k: usize, out: &mut [u8])
     ensures { out.new ≡ map letter (chars_of 2 k x) ++ drop k out.old }
 {
     let mut rest = x;
-    let mut i: usize = 0;
-    while i < k {
-        let c = (rest % 4) as u8;
-        out[i] = low_letter(c);
-        rest = rest / 4;
-        i += 1;
+    for letter in out[..k].iter_mut() {
+        *letter = low_letter((rest % 4) as u8);
+        rest /= 4;
     }
 }
 
@@ -60,7 +55,13 @@ pub(crate) fn unpack_pair(low: u64, high: u64, k: usize, out: &mut [u8])
 }
 
 // Writes the k low bases of a word of two halves, where k is at most `most` and the buffer has room.
-pub(crate) fn unpack_up_to(low: u64, high: u64, k: Chars, most: usize, out: &mut [u8]) -> Outcome
+pub(crate) fn unpack_up_to(
+    low: u64,
+    high: u64,
+    k: Chars,
+    most: usize,
+    out: &mut [u8],
+) -> Result<(), Refusal>
     requires { most ≤ 64 }
     ensures outcome { result ≡ first (bad_word 0 most k.0 ∷ no_room (length out.old) k.0 ∷ []) }
     ensures bytes { out.new ≡
@@ -68,11 +69,11 @@ pub(crate) fn unpack_up_to(low: u64, high: u64, k: Chars, most: usize, out: &mut
 {
     let n = k.count();
     if most < n {
-        return Outcome::Refused(Refusal::BadWord);
+        return Err(Refusal::BadWord);
     }
     if out.len() < n {
-        return Outcome::Refused(Refusal::NoRoom);
+        return Err(Refusal::NoRoom);
     }
     unpack_pair(low, high, n, out);
-    Outcome::Done
+    Ok(())
 }

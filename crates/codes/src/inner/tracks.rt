@@ -1,30 +1,29 @@
 // Single characters of a byte string, and a byte joined of the bits of two.
-ghost use Rattle.std.specs.Prelude.{◌≡◌, ◌+◌, ◌*◌, ◌/◌, ◌%◌, ◌^◌, ◌≤◌, ◌<◌, length};
-ghost use Rattle.codes.specs.Codes.{IsWidth, per, char_at, code};
+ghost use Rattle.std.specs.Prelude.{◌++◌, ◌≡◌, ◌+◌, ◌*◌, ◌/◌, ◌%◌, ◌^◌, ◌≤◌, ◌<◌, length, drop};
+ghost use Rattle.codes.specs.Codes.{per, char_at};
 ghost use Rattle.codes.specs.Made.{Made};
 
 use crate::inner::bits::wide;
 use crate::inner::counts::{byte_of, within_byte};
-use crate::letters::{char_is_ambiguous, pack_char_lossy};
 use crate::units::Chars;
+use crate::widths::Width;
 
 // Character k of a byte.
-pub fn digit(byte: u8, w: usize, k: usize) -> u8
-    requires width { IsWidth w }
-    requires k_bound { k < per w }
-    ensures { result ≡ byte / 2 ^ (w * k) % 2 ^ w }
+pub fn digit<W: Width>(byte: u8, k: usize) -> u8
+    requires { k < per W.BITS }
+    ensures { result ≡ byte / 2 ^ (W.BITS * k) % 2 ^ W.BITS }
 {
+    let w = W::BITS;
     (byte >> (w * k)) & ((1 << w) - 1)
 }
 
 // A byte of k characters with one more on top.
-pub fn add_digit(low: u8, w: usize, k: usize, code: u8) -> u8
-    requires width { IsWidth w }
-    requires k_bound { k < per w }
-    requires low_bound { (low < 2 ^ (w * k)) × (code < 2 ^ w) }
-    ensures { result ≡ code * 2 ^ (w * k) + low }
+pub fn add_digit<W: Width>(low: u8, k: usize, code: u8) -> u8
+    requires k_bound { k < per W.BITS }
+    requires low_bound { (low < 2 ^ (W.BITS * k)) × (code < 2 ^ W.BITS) }
+    ensures { result ≡ code * 2 ^ (W.BITS * k) + low }
 {
-    low | (code << (w * k))
+    low | (code << (W::BITS * k))
 }
 
 // The low s bits of one byte under the rest of another.
@@ -37,25 +36,13 @@ pub fn joined(low: u8, high: u8, s: usize) -> u8
 }
 
 // Character i.
-pub fn char_at(bytes: &[u8], w: usize, i: usize) -> u8
-    requires width { IsWidth w }
-    requires w_in_bounds { i / per w < length bytes.now }
-    ensures { result ≡ char_at w bytes.now i }
+pub fn char_at<W: Width>(bytes: &[u8], i: usize) -> u8
+    requires { i / per W.BITS < length bytes.now }
+    ensures { result ≡ char_at W.BITS bytes.now i }
 {
     let at = Chars::new(i);
-    let b = byte_of(w, at).count();
-    digit(bytes[b], w, within_byte(w, at).count())
-}
-
-// What a letter is at width w.
-pub fn code_of(w: usize, letter: u8) -> u8
-    ensures { result ≡ code w letter }
-{
-    if w == 1 {
-        char_is_ambiguous(letter)
-    } else {
-        pack_char_lossy(letter)
-    }
+    let b = byte_of::<W>(at).count();
+    digit::<W>(bytes[b], within_byte::<W>(at).count())
 }
 
 // Zeros from byte `from` up to byte `to`.
@@ -63,9 +50,15 @@ pub fn zero_run(buffer: &mut [u8], from: usize, to: usize)
     requires { (from ≤ to) × (to ≤ length buffer.old) }
     ensures { Made (λ j. 0) from to buffer.old buffer.new }
 {
-    let mut j = from;
-    while j < to {
-        buffer[j] = 0;
-        j += 1;
+    buffer[from..to].fill(0);
+}
+
+// Copies bytes to the front of a buffer.
+pub fn copy(from: &[u8], to: &mut [u8])
+    requires { length from.now ≤ length to.old }
+    ensures { to.new ≡ from.now ++ drop (length from.now) to.old }
+{
+    for (i, byte) in to[..from.len()].iter_mut().enumerate() {
+        *byte = from[i];
     }
 }

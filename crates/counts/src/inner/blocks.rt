@@ -33,10 +33,8 @@ fn count_run(track: &[u8], len: usize, entries: &mut [u16], from: usize, to: usi
     requires from_le_to { (from ≤ to) × (to ≤ blocks len) × (to ≤ length entries.old) }
     ensures { Made (λ b. set_flags (block (chars 1 track.now 0 len) b)) from to entries.old entries.new }
 {
-    let mut b = from;
-    while b < to {
+    for b in from..to {
         entries[b] = count_block(track, len, b);
-        b += 1;
     }
 }
 

@@ -1,19 +1,29 @@
 // The set flags of a range: the entries of the whole blocks in it, and its ends counted.
-ghost use Rattle.std.specs.Prelude.{◌≡◌, ◌+◌, ◌-◌, ◌*◌, ◌^◌, ◌≤◌, max, length};
+ghost use Rattle.std.specs.Prelude.{[], ◌∷◌, ◌≡◌, ◌+◌, ◌-◌, ◌*◌, ◌^◌, ◌≤◌, max, length};
 ghost use Rattle.std.proofs.Math.Seq.{slice};
 ghost use Rattle.codes.specs.Codes.{chars, up, trailing};
 ghost use Rattle.codes.specs.Refusals.{first};
 ghost use Rattle.fields.specs.Flags.{sum};
 ghost use Rattle.counts.specs.Blocks.{blocks, range_count};
-ghost use Rattle.counts.specs.Counts.{query_tests};
+ghost use Rattle.counts.specs.Counts.{too_few, query_tests};
 
 use crate::inner::blocks::{SIZE, blocks_of};
 use codes::inner::bits::smaller;
-use codes::inner::checks::refuse_if;
-use codes::refusals::{Outcome, Refusal};
+use codes::refusals::Refusal;
 use codes::units::Chars;
+use codes::widths::Flags;
 use fields::inner::flags::set_flags;
 use stores::inner::outcomes::end_outcome;
+
+// Whether there is an entry for each block of n characters.
+pub(crate) fn room_for(entries: usize, n: usize) -> Result<(), Refusal>
+    ensures { result ≡ first (too_few entries n ∷ []) }
+{
+    if entries < blocks_of(n) {
+        return Err(Refusal::NoRoom);
+    }
+    Ok(())
+}
 
 // Whether a query is refused, and why.
 pub(crate) fn query_outcome(
@@ -22,19 +32,14 @@ pub(crate) fn query_outcome(
     entries: usize,
     start: Chars,
     end: Chars,
-) -> Outcome
+) -> Result<(), Refusal>
     ensures { result ≡ first (query_tests size len.0 entries start.0 end.0) }
 {
-    let ends = end_outcome(1, size, len, Chars::new(0), end.count());
-    let starts = refuse_if(ends, end.count() < start.count(), Refusal::BadRange);
-    let short = entries < blocks_of(len.count());
-    refuse_if(starts, short, Refusal::NoRoom)
-}
-
-fn wide(x: u16) -> u32
-    ensures { result ≡ x }
-{
-    x as u32
+    end_outcome::<Flags>(size, len, Chars::new(0), end.count())?;
+    if end.count() < start.count() {
+        return Err(Refusal::BadRange);
+    }
+    room_for(entries, len.count())
 }
 
 fn larger(m: usize, n: usize) -> usize
@@ -51,13 +56,10 @@ fn sum_many(entries: &[u16], from: usize, to: usize) -> u32
     requires { (from ≤ to) × (to ≤ length entries.now) × (to ≤ from + 2 ^ 16) }
     ensures { (result ≡ sum (slice from to entries.now)) × (result ≤ 0xffff * (to - from)) }
 {
-    let mut total: u32 = 0;
-    let mut b = from;
-    while b < to {
-        total += wide(entries[b]);
-        b += 1;
-    }
-    total
+    entries[from..to]
+        .iter()
+        .map(|entry| u32::from(*entry))
+        .sum()
 }
 
 // The sum of the entries from entry `from` up to entry `to`.
@@ -66,11 +68,8 @@ fn sum_run(entries: &[u16], from: usize, to: usize) -> u64
     ensures { (result ≡ sum (slice from to entries.now)) × (result ≤ 0xffff * (to - from)) }
 {
     let mut total: u64 = 0;
-    let mut b = from;
-    while b < to {
-        let next = smaller(to, b + MANY);
-        total += sum_many(entries, b, next) as u64;
-        b = next;
+    for b in (from..to).step_by(MANY) {
+        total += sum_many(entries, b, smaller(to, b + MANY)) as u64;
     }
     total
 }

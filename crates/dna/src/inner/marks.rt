@@ -9,6 +9,7 @@ pub fn mark_run(flags: &mut [u8], from: usize, to: usize)
     ensures { Marked from to flags.old flags.new }
 {
     let mut p = from;
+    // By one flag or by eight: no fixed step.
     while p < to {
         if p % 8 == 0 && 8 <= to - p {
             flags[p / 8] = 0xff;

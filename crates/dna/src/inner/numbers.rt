@@ -19,9 +19,7 @@ pub fn number_at(file: &[u8], big: bool, k: usize, at: usize) -> usize
     ensures { result ≡ number_at big k file.now at }
 {
     let mut value: usize = 0;
-    let mut j = k;
-    while 0 < j {
-        j -= 1;
+    for j in (0..k).rev() {
         value = value * 0x100 + byte_of(file, big, k, at, j);
     }
     value

@@ -21,20 +21,18 @@ pub fn read_dna(file: &[u8], d: usize, n: usize, flags: &[u8], bases: &mut [u8])
     ensures { bases.new ≡
         filled_with (packed 2 (bases_at file.now d n (char_at 1 flags.now))) bases.old }
 {
-    let mut done: usize = 0;
-    let mut i: usize = 0;
-    while 32 <= n - done {
-        let x = load64(file, d + i);
-        let f = peek(flags, done) % 0x1_0000_0000;
-        store64(bases, i, three_under(exchange(x), f));
-        done += 32;
-        i += 8;
+    let whole = n / 32;
+    for i in 0..whole {
+        let x = load64(file, d + 8 * i);
+        let f = peek(flags, 32 * i) % 0x1_0000_0000;
+        store64(bases, 8 * i, three_under(exchange(x), f));
     }
-    let left = n - done;
+    let at = 8 * whole;
+    let left = n % 32;
     let k = (left + 3) / 4;
-    let x = number_at(file, false, k, d + i) as u64;
-    let f = bits_at(flags, done, left);
+    let x = number_at(file, false, k, d + at) as u64;
+    let f = bits_at(flags, 32 * whole, left);
     let y = three_under(exchange(x), f);
-    put_bytes(low_bits(y, 2 * left), k, bases, i);
-    zero_run(bases, i + k, i + k + TRAILING);
+    put_bytes(low_bits(y, 2 * left), k, bases, at);
+    zero_run(bases, at + k, at + k + TRAILING);
 }

@@ -1,4 +1,4 @@
-// Functions with the width as a number, which ask something of their callers.
+// Functions generic in the width.
 pub mod pair;
 pub mod parts;
 pub mod store;

@@ -1,16 +1,14 @@
 // Two views, at any width.
 ghost use Rattle.std.specs.Prelude.{◌≡◌};
-ghost use Rattle.codes.specs.Codes.{IsWidth};
 ghost use Rattle.given.specs.Face.{said};
 ghost use Rattle.order.specs.Order.{compared, found};
 
 use codes::units::Chars;
+use codes::widths::Width;
 use given::inner::give;
-use order::inner::compare;
-use order::inner::find::find_views;
+use order::calls;
 
-pub fn compare(
-    w: usize,
+pub fn compare<W: Width>(
     a: &[u8],
     ao: usize,
     al: usize,
@@ -20,12 +18,10 @@ pub fn compare(
     order: &mut i32,
     common: &mut usize,
 ) -> u32
-    requires { IsWidth w }
-    ensures { said result (order.new, common.new) ≡ compared w a.now ao al b.now bo bl }
+    ensures { said result (order.new, common.new) ≡ compared W.BITS a.now ao al b.now bo bl }
 {
     give::compared(
-        compare::compare(
-            w,
+        calls::compare::<W>(
             a,
             Chars::new(ao),
             Chars::new(al),
@@ -38,8 +34,7 @@ pub fn compare(
     )
 }
 
-pub fn find(
-    w: usize,
+pub fn find<W: Width>(
     text: &[u8],
     to: usize,
     tl: usize,
@@ -49,12 +44,10 @@ pub fn find(
     there: &mut bool,
     place: &mut usize,
 ) -> u32
-    requires { IsWidth w }
-    ensures { said result (there.new, place.new) ≡ found w text.now to tl pattern.now po pl }
+    ensures { said result (there.new, place.new) ≡ found W.BITS text.now to tl pattern.now po pl }
 {
     give::found(
-        find_views(
-            w,
+        calls::find::<W>(
             text,
             Chars::new(to),
             Chars::new(tl),

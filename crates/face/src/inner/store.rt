@@ -1,45 +1,41 @@
 // Stores, at any width: a buffer and its length, which a call brings up to date.
 ghost use Rattle.std.specs.Prelude.{◌≡◌, length};
-ghost use Rattle.codes.specs.Codes.{IsWidth};
 ghost use Rattle.given.specs.Face.{said};
 ghost use Rattle.stores.specs.Stores as Stores;
 ghost use Rattle.stores.specs.Stores.{answered, after};
 
 use codes::units::Chars;
+use codes::widths::Width;
 use given::inner::give;
-use stores::inner::calls::{clear_store, cut_store, overwrite_store, push_letters, push_view};
+use stores::calls;
 
-pub fn clear(w: usize, buffer: &mut [u8], len: &mut usize) -> u32
-    requires { IsWidth w }
-    ensures says { said result (0, 0, len.new) ≡ answered w (length buffer.old) 0 Stores.clear }
-    ensures bytes { buffer.new ≡ after w buffer.old 0 Stores.clear }
+pub fn clear<W: Width>(buffer: &mut [u8], len: &mut usize) -> u32
+    ensures says { said result (0, 0, len.new) ≡ answered W.BITS (length buffer.old) 0 Stores.clear }
+    ensures bytes { buffer.new ≡ after W.BITS buffer.old 0 Stores.clear }
 {
-    give::kept(clear_store(w, buffer), len)
+    give::kept(calls::clear::<W>(buffer), len)
 }
 
-pub fn push_ascii(
-    w: usize,
+pub fn push_ascii<W: Width>(
     buffer: &mut [u8],
     len: &mut usize,
     letters: &[u8],
     start: &mut usize,
     end: &mut usize,
 ) -> u32
-    requires { IsWidth w }
     ensures says { said result (start.new, end.new, len.new)
-        ≡ answered w (length buffer.old) len.old (Stores.push_ascii letters.now) }
-    ensures bytes { buffer.new ≡ after w buffer.old len.old (Stores.push_ascii letters.now) }
+        ≡ answered W.BITS (length buffer.old) len.old (Stores.push_ascii letters.now) }
+    ensures bytes { buffer.new ≡ after W.BITS buffer.old len.old (Stores.push_ascii letters.now) }
 {
     give::pushed(
-        push_letters(w, buffer, Chars::new(*len), letters),
+        calls::push_ascii::<W>(buffer, Chars::new(*len), letters),
         start,
         end,
         len,
     )
 }
 
-pub fn push_seq(
-    w: usize,
+pub fn push_seq<W: Width>(
     buffer: &mut [u8],
     len: &mut usize,
     bytes: &[u8],
@@ -48,14 +44,12 @@ pub fn push_seq(
     start: &mut usize,
     end: &mut usize,
 ) -> u32
-    requires { IsWidth w }
     ensures says { said result (start.new, end.new, len.new)
-        ≡ answered w (length buffer.old) len.old (Stores.push_seq bytes.now offset count) }
-    ensures bytes { buffer.new ≡ after w buffer.old len.old (Stores.push_seq bytes.now offset count) }
+        ≡ answered W.BITS (length buffer.old) len.old (Stores.push_seq bytes.now offset count) }
+    ensures bytes { buffer.new ≡ after W.BITS buffer.old len.old (Stores.push_seq bytes.now offset count) }
 {
     give::pushed(
-        push_view(
-            w,
+        calls::push_seq::<W>(
             buffer,
             Chars::new(*len),
             bytes,
@@ -68,22 +62,23 @@ pub fn push_seq(
     )
 }
 
-pub fn overwrite(w: usize, buffer: &mut [u8], len: &mut usize, start: usize, letters: &[u8]) -> u32
-    requires { IsWidth w }
+pub fn overwrite<W: Width>(buffer: &mut [u8], len: &mut usize, start: usize, letters: &[u8]) -> u32
     ensures says { said result (0, 0, len.new)
-        ≡ answered w (length buffer.old) len.old (Stores.overwrite start letters.now) }
-    ensures bytes { buffer.new ≡ after w buffer.old len.old (Stores.overwrite start letters.now) }
+        ≡ answered W.BITS (length buffer.old) len.old (Stores.overwrite start letters.now) }
+    ensures bytes { buffer.new ≡ after W.BITS buffer.old len.old (Stores.overwrite start letters.now) }
 {
     give::kept(
-        overwrite_store(w, buffer, Chars::new(*len), Chars::new(start), letters),
+        calls::overwrite::<W>(buffer, Chars::new(*len), Chars::new(start), letters),
         len,
     )
 }
 
-pub fn cut(w: usize, buffer: &mut [u8], len: &mut usize, m: usize) -> u32
-    requires { IsWidth w }
-    ensures says { said result (0, 0, len.new) ≡ answered w (length buffer.old) len.old (Stores.cut m) }
-    ensures bytes { buffer.new ≡ after w buffer.old len.old (Stores.cut m) }
+pub fn cut<W: Width>(buffer: &mut [u8], len: &mut usize, m: usize) -> u32
+    ensures says { said result (0, 0, len.new) ≡ answered W.BITS (length buffer.old) len.old (Stores.cut m) }
+    ensures bytes { buffer.new ≡ after W.BITS buffer.old len.old (Stores.cut m) }
 {
-    give::kept(cut_store(w, buffer, Chars::new(*len), Chars::new(m)), len)
+    give::kept(
+        calls::cut::<W>(buffer, Chars::new(*len), Chars::new(m)),
+        len,
+    )
 }

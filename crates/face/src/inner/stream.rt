@@ -1,16 +1,15 @@
 // Streams over a view, at any width.
 ghost use Rattle.std.specs.Prelude.{[], ◌∷◌, ◌≡◌, length};
-ghost use Rattle.codes.specs.Codes.{IsWidth};
 ghost use Rattle.codes.specs.Refusals.{number_of};
 ghost use Rattle.given.specs.Face.{said};
 ghost use Rattle.streams.specs.Streams.{shaped, fill_answer, fill_after, step_outcome, step_lanes};
 
 use codes::units::Chars;
+use codes::widths::Width;
 use given::inner::give;
-use streams::inner::{fills, shapes, steps};
+use streams::calls;
 
-pub fn shape(
-    w: usize,
+pub fn shape<W: Width>(
     len: usize,
     context: usize,
     factor: usize,
@@ -18,19 +17,17 @@ pub fn shape(
     steps: &mut usize,
     padding: &mut usize,
 ) -> u32
-    requires { IsWidth w }
-    ensures { said result (lane.new, steps.new, padding.new) ≡ shaped w len context factor }
+    ensures { said result (lane.new, steps.new, padding.new) ≡ shaped W.BITS len context factor }
 {
     give::shape(
-        shapes::shape(w, Chars::new(len), Chars::new(context), factor),
+        calls::shape::<W>(Chars::new(len), Chars::new(context), factor),
         lane,
         steps,
         padding,
     )
 }
 
-pub fn fill(
-    w: usize,
+pub fn fill<W: Width>(
     bytes: &[u8],
     offset: usize,
     len: usize,
@@ -40,15 +37,13 @@ pub fn fill(
     steps: &mut usize,
     padding: &mut usize,
 ) -> u32
-    requires { IsWidth w }
     ensures answer { said result (steps.new, padding.new)
-        ≡ fill_answer w bytes.now offset len context factor 0 0 (length out.old ∷ []) }
+        ≡ fill_answer W.BITS bytes.now offset len context factor 0 0 (length out.old ∷ []) }
     ensures out { out.new
-        ≡ fill_after w bytes.now offset len context factor 0 0 (length out.old ∷ []) 0 out.old }
+        ≡ fill_after W.BITS bytes.now offset len context factor 0 0 (length out.old ∷ []) 0 out.old }
 {
     give::filled(
-        fills::fill(
-            w,
+        calls::fill::<W>(
             bytes,
             Chars::new(offset),
             Chars::new(len),
@@ -61,8 +56,7 @@ pub fn fill(
     )
 }
 
-pub fn fill_delayed(
-    w: usize,
+pub fn fill_delayed<W: Width>(
     bytes: &[u8],
     offset: usize,
     len: usize,
@@ -74,17 +68,15 @@ pub fn fill_delayed(
     steps: &mut usize,
     padding: &mut usize,
 ) -> u32
-    requires { IsWidth w }
     ensures answer { said result (steps.new, padding.new)
-        ≡ fill_answer w bytes.now offset len context factor delay delay (length out.old ∷ length delayed.old ∷ []) }
-    ensures out { out.new ≡ fill_after w bytes.now offset len context factor delay delay
+        ≡ fill_answer W.BITS bytes.now offset len context factor delay delay (length out.old ∷ length delayed.old ∷ []) }
+    ensures out { out.new ≡ fill_after W.BITS bytes.now offset len context factor delay delay
         (length out.old ∷ length delayed.old ∷ []) 0 out.old }
-    ensures delayed { delayed.new ≡ fill_after w bytes.now offset len context factor delay delay
+    ensures delayed { delayed.new ≡ fill_after W.BITS bytes.now offset len context factor delay delay
         (length out.old ∷ length delayed.old ∷ []) delay delayed.old }
 {
     give::filled(
-        fills::fill_delayed(
-            w,
+        calls::fill_delayed::<W>(
             bytes,
             Chars::new(offset),
             Chars::new(len),
@@ -99,8 +91,7 @@ pub fn fill_delayed(
     )
 }
 
-pub fn fill_delayed_2(
-    w: usize,
+pub fn fill_delayed_2<W: Width>(
     bytes: &[u8],
     offset: usize,
     len: usize,
@@ -114,19 +105,17 @@ pub fn fill_delayed_2(
     steps: &mut usize,
     padding: &mut usize,
 ) -> u32
-    requires { IsWidth w }
-    ensures answer { said result (steps.new, padding.new) ≡ fill_answer w bytes.now offset len context factor first second
+    ensures answer { said result (steps.new, padding.new) ≡ fill_answer W.BITS bytes.now offset len context factor first second
         (length out.old ∷ length out1.old ∷ length out2.old ∷ []) }
-    ensures out { out.new ≡ fill_after w bytes.now offset len context factor first second
+    ensures out { out.new ≡ fill_after W.BITS bytes.now offset len context factor first second
         (length out.old ∷ length out1.old ∷ length out2.old ∷ []) 0 out.old }
-    ensures out1 { out1.new ≡ fill_after w bytes.now offset len context factor first second
+    ensures out1 { out1.new ≡ fill_after W.BITS bytes.now offset len context factor first second
         (length out.old ∷ length out1.old ∷ length out2.old ∷ []) first out1.old }
-    ensures out2 { out2.new ≡ fill_after w bytes.now offset len context factor first second
+    ensures out2 { out2.new ≡ fill_after W.BITS bytes.now offset len context factor first second
         (length out.old ∷ length out1.old ∷ length out2.old ∷ []) second out2.old }
 {
     give::filled(
-        fills::fill_delayed_2(
-            w,
+        calls::fill_delayed_2::<W>(
             bytes,
             Chars::new(offset),
             Chars::new(len),
@@ -143,8 +132,7 @@ pub fn fill_delayed_2(
     )
 }
 
-pub fn step(
-    w: usize,
+pub fn step<W: Width>(
     bytes: &[u8],
     offset: usize,
     len: usize,
@@ -153,12 +141,10 @@ pub fn step(
     j: usize,
     lanes: &mut [u32; 8],
 ) -> u32
-    requires { IsWidth w }
-    ensures number { result ≡ number_of (step_outcome w bytes.now offset len context factor 0 0 j) }
-    ensures lanes { lanes.new ≡ step_lanes w bytes.now offset len context factor 0 0 j 0 }
+    ensures number { result ≡ number_of (step_outcome W.BITS bytes.now offset len context factor 0 0 j) }
+    ensures lanes { lanes.new ≡ step_lanes W.BITS bytes.now offset len context factor 0 0 j 0 }
 {
-    let stepped = steps::step(
-        w,
+    let stepped = calls::step::<W>(
         bytes,
         Chars::new(offset),
         Chars::new(len),
@@ -166,14 +152,10 @@ pub fn step(
         factor,
         j,
     );
-    let plain = stepped.lanes;
-    let outcome = stepped.outcome;
-    *lanes = plain;
-    give::no(outcome)
+    give::number(stepped, [0; 8], lanes)
 }
 
-pub fn step_delayed(
-    w: usize,
+pub fn step_delayed<W: Width>(
     bytes: &[u8],
     offset: usize,
     len: usize,
@@ -184,13 +166,11 @@ pub fn step_delayed(
     lanes: &mut [u32; 8],
     lanes1: &mut [u32; 8],
 ) -> u32
-    requires { IsWidth w }
-    ensures number { result ≡ number_of (step_outcome w bytes.now offset len context factor delay delay j) }
-    ensures lanes { lanes.new ≡ step_lanes w bytes.now offset len context factor delay delay j 0 }
-    ensures lanes1 { lanes1.new ≡ step_lanes w bytes.now offset len context factor delay delay j delay }
+    ensures number { result ≡ number_of (step_outcome W.BITS bytes.now offset len context factor delay delay j) }
+    ensures lanes { lanes.new ≡ step_lanes W.BITS bytes.now offset len context factor delay delay j 0 }
+    ensures lanes1 { lanes1.new ≡ step_lanes W.BITS bytes.now offset len context factor delay delay j delay }
 {
-    let stepped = steps::step_delayed(
-        w,
+    let stepped = calls::step_delayed::<W>(
         bytes,
         Chars::new(offset),
         Chars::new(len),
@@ -199,16 +179,13 @@ pub fn step_delayed(
         Chars::new(delay),
         j,
     );
-    let plain = stepped.lanes;
-    let late = stepped.delayed;
-    let outcome = stepped.outcome;
+    let (no, [plain, late]) = give::split(stepped, [[0; 8]; 2]);
     *lanes = plain;
     *lanes1 = late;
-    give::no(outcome)
+    no
 }
 
-pub fn step_delayed_2(
-    w: usize,
+pub fn step_delayed_2<W: Width>(
     bytes: &[u8],
     offset: usize,
     len: usize,
@@ -221,14 +198,12 @@ pub fn step_delayed_2(
     lanes1: &mut [u32; 8],
     lanes2: &mut [u32; 8],
 ) -> u32
-    requires { IsWidth w }
-    ensures number { result ≡ number_of (step_outcome w bytes.now offset len context factor first second j) }
-    ensures lanes { lanes.new ≡ step_lanes w bytes.now offset len context factor first second j 0 }
-    ensures lanes1 { lanes1.new ≡ step_lanes w bytes.now offset len context factor first second j first }
-    ensures lanes2 { lanes2.new ≡ step_lanes w bytes.now offset len context factor first second j second }
+    ensures number { result ≡ number_of (step_outcome W.BITS bytes.now offset len context factor first second j) }
+    ensures lanes { lanes.new ≡ step_lanes W.BITS bytes.now offset len context factor first second j 0 }
+    ensures lanes1 { lanes1.new ≡ step_lanes W.BITS bytes.now offset len context factor first second j first }
+    ensures lanes2 { lanes2.new ≡ step_lanes W.BITS bytes.now offset len context factor first second j second }
 {
-    let stepped = steps::step_delayed_2(
-        w,
+    let stepped = calls::step_delayed_2::<W>(
         bytes,
         Chars::new(offset),
         Chars::new(len),
@@ -238,12 +213,9 @@ pub fn step_delayed_2(
         Chars::new(second),
         j,
     );
-    let plain = stepped.lanes;
-    let late1 = stepped.first;
-    let late2 = stepped.second;
-    let outcome = stepped.outcome;
+    let (no, [plain, late1, late2]) = give::split(stepped, [[0; 8]; 3]);
     *lanes = plain;
     *lanes1 = late1;
     *lanes2 = late2;
-    give::no(outcome)
+    no
 }

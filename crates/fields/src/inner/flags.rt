@@ -18,11 +18,10 @@ pub fn set_flags(bytes: &[u8], first: usize, n: usize) -> u64
     requires { (first + n < 2 ^ 64) × ((first + n) / 8 + 9 ≤ length bytes.now) }
     ensures { result ≡ set_flags (chars 1 bytes.now first n) }
 {
-    let mut done: usize = 0;
+    let whole = n / 64;
     let mut sum: u64 = 0;
-    while 64 <= n - done {
-        sum += set_in_word(bytes, first + done, 64);
-        done += 64;
+    for i in 0..whole {
+        sum += set_in_word(bytes, first + 64 * i, 64);
     }
-    sum + set_in_word(bytes, first + done, n - done)
+    sum + set_in_word(bytes, first + 64 * whole, n % 64)
 }

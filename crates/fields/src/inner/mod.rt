@@ -1,4 +1,4 @@
-// Functions with the width as a number, over plain slices. Only these ask anything of their callers.
+// Functions generic in the width, over plain slices. Only these ask anything of their callers.
 pub mod flags;
 pub mod loads;
 pub mod parts;

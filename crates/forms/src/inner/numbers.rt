@@ -7,9 +7,9 @@ use codes::inner::bits::wide;
 
 // A number that was read, and how many bytes it took.
 #[derive(Clone, Copy)]
-pub enum Spelled {
-    Is { value: u64, size: usize },
-    Bad,
+pub struct Spelled {
+    pub value: u64,
+    pub size: usize,
 }
 
 // The bytes that n takes.
@@ -39,6 +39,7 @@ pub(crate) fn spell(n: u64, out: &mut [u8])
 {
     let mut rest = n;
     let mut i: usize = 0;
+    // By what is left of the number: no range to go over.
     while 0x80 <= rest {
         out[i] = (rest % 0x80 + 0x80) as u8;
         rest = rest / 0x80;
@@ -48,36 +49,30 @@ pub(crate) fn spell(n: u64, out: &mut [u8])
 }
 
 // The number that a byte leads, where `rest` stands behind it.
-fn lead(byte: u8, rest: Spelled) -> Spelled
+fn lead(byte: u8, rest: Option<Spelled>) -> Option<Spelled>
     requires { Fits 8 (spelled_says rest) }
     ensures { spelled_says result ≡ led byte (spelled_says rest) }
 {
     let b = wide(byte);
     if b < 0x80 {
-        return Spelled::Is { value: b, size: 1 };
+        return Some(Spelled { value: b, size: 1 });
     }
-    match rest {
-        Spelled::Bad => Spelled::Bad,
-        Spelled::Is { value, size } => {
-            if value == 0 {
-                return Spelled::Bad;
-            }
-            Spelled::Is {
-                value: value * 0x80 + (b - 0x80),
-                size: size + 1,
-            }
-        }
+    let behind = rest?;
+    if behind.value == 0 {
+        return None;
     }
+    Some(Spelled {
+        value: behind.value * 0x80 + (b - 0x80),
+        size: behind.size + 1,
+    })
 }
 
 // The number that the bytes begin with: from the fifth byte back to the first, each leads what stands behind it.
-pub(crate) fn read_number(bytes: &[u8]) -> Spelled
+pub(crate) fn read_number(bytes: &[u8]) -> Option<Spelled>
     ensures { spelled_says result ≡ spelling 5 bytes.now }
 {
-    let mut read = Spelled::Bad;
-    let mut i: usize = 5;
-    while 0 < i {
-        i -= 1;
+    let mut read = None;
+    for i in (0..5).rev() {
         if i < bytes.len() {
             read = lead(bytes[i], read);
         }

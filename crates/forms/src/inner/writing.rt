@@ -1,8 +1,7 @@
 // Writing a form: whether it can be written, how long it is, and its bytes.
-ghost use Rattle.std.specs.Prelude.{◌∷◌, ◌++◌, ◌≡◌, suc, ◌≤◌, ◌^◌, length, drop};
+ghost use Rattle.std.specs.Prelude.{Ok, ◌∷◌, ◌++◌, ◌≡◌, suc, ◌≤◌, ◌^◌, length, drop};
 ghost use Rattle.codes.specs.Codes.{chars};
 ghost use Rattle.codes.specs.Refusals.{first, view_tests};
-ghost use Rattle.codes.specs.declared.refusals.Outcome.TheVariants.{Done};
 ghost use Rattle.forms.specs.Forms.{form_size, stored, write_tests};
 ghost use Rattle.forms.specs.Numbers.{spelt};
 
@@ -10,8 +9,9 @@ use crate::inner::MOST;
 use crate::inner::numbers::{spell, spelt_size};
 use crate::inner::tracks::write_track;
 use codes::inner::checks::{bad_view, too_long};
-use codes::refusals::{Outcome, Refusal};
+use codes::refusals::Refusal;
 use codes::units::{Bytes, Chars};
+use codes::widths::{Bases, Flags};
 
 // The bytes of a form.
 pub(crate) fn form_size(len: Chars) -> Bytes
@@ -19,7 +19,7 @@ pub(crate) fn form_size(len: Chars) -> Bytes
     ensures { result.0 ≡ form_size len.0 }
 {
     let head = 1 + spelt_size(len.count() as u64);
-    Bytes::new(head + (len.bytes_as_bases().count() + len.bytes_as_flags().count()))
+    Bytes::new(head + (len.bytes_as::<Bases>().count() + len.bytes_as::<Flags>().count()))
 }
 
 // The refusals of writing into so many bytes.
@@ -31,33 +31,33 @@ pub(crate) fn write_outcome(
     bo: Chars,
     bl: Chars,
     room: usize,
-) -> Outcome
+) -> Result<(), Refusal>
     ensures { result ≡ first (write_tests (length bases.now) ao.0 al.0 (length flags.now) bo.0 bl.0 room) }
 {
     let m = bases.len();
     let n = flags.len();
     if too_long(m) {
-        return Outcome::Refused(Refusal::TooLong);
+        return Err(Refusal::TooLong);
     }
     if too_long(n) {
-        return Outcome::Refused(Refusal::TooLong);
+        return Err(Refusal::TooLong);
     }
-    if bad_view(2, m, ao, al) {
-        return Outcome::Refused(Refusal::BadView);
+    if bad_view::<Bases>(m, ao, al) {
+        return Err(Refusal::BadView);
     }
-    if bad_view(1, n, bo, bl) {
-        return Outcome::Refused(Refusal::BadView);
+    if bad_view::<Flags>(n, bo, bl) {
+        return Err(Refusal::BadView);
     }
     if al.count() != bl.count() {
-        return Outcome::Refused(Refusal::BadRange);
+        return Err(Refusal::BadRange);
     }
     if MOST < al.count() {
-        return Outcome::Refused(Refusal::BadRange);
+        return Err(Refusal::BadRange);
     }
     if room < form_size(al).count() {
-        return Outcome::Refused(Refusal::NoRoom);
+        return Err(Refusal::NoRoom);
     }
-    Outcome::Done
+    Ok(())
 }
 
 // Writes byte 1 and n.
@@ -78,16 +78,16 @@ pub(crate) fn write_form(
     len: Chars,
     out: &mut [u8],
 )
-    requires len_value { first (view_tests 2 (length bases.now) ao len.0) ≡ Done }
-    requires len_value_2 { first (view_tests 1 (length flags.now) bo len.0) ≡ Done }
+    requires len_value { first (view_tests 2 (length bases.now) ao len.0) ≡ Ok tt }
+    requires len_value_2 { first (view_tests 1 (length flags.now) bo len.0) ≡ Ok tt }
     requires len_bound { (len.0 ≤ 2 ^ 29) × (form_size len.0 ≤ length out.old) }
     ensures { out.new ≡
         stored (chars 2 bases.now ao len.0) (chars 1 flags.now bo len.0) ++ drop (form_size len.0) out.old }
 {
     let n = len.count();
     let base_at = 1 + spelt_size(n as u64);
-    let flag_at = base_at + len.bytes_as_bases().count();
+    let flag_at = base_at + len.bytes_as::<Bases>().count();
     write_head(n as u64, out);
-    write_track(2, bases, ao, n, out, base_at);
-    write_track(1, flags, bo, n, out, flag_at);
+    write_track::<Bases>(bases, ao, n, out, base_at);
+    write_track::<Flags>(flags, bo, n, out, flag_at);
 }

@@ -1,1 +1,2 @@
 pub mod give;
+pub mod parts;

@@ -1,10 +1,10 @@
 // Single steps: the eight lanes of a step, each character read from the view.
-ghost use Rattle.std.specs.Prelude.{◌≡◌, ◌^◌, ◌≤◌, ◌<◌, length};
-ghost use Rattle.codes.specs.Codes.{IsWidth, chars};
+ghost use Rattle.std.specs.Prelude.{Ok, ◌≡◌, ◌^◌, ◌≤◌, ◌<◌, length};
+ghost use Rattle.codes.specs.Codes.{chars};
 ghost use Rattle.codes.specs.Refusals.{first, view_tests};
-ghost use Rattle.codes.specs.declared.refusals.Outcome.TheVariants.{Done};
 ghost use Rattle.lanes.specs.Lanes.{lane_char, lanes};
 
+use codes::widths::Width;
 use fields::inner::loads::bits_at;
 
 fn narrow(x: u64) -> u32
@@ -15,8 +15,7 @@ fn narrow(x: u64) -> u32
 }
 
 // The character that step j gives lane l at delay d, where lanes are n apart.
-fn lane_char(
-    w: usize,
+fn lane_char<W: Width>(
     bytes: &[u8],
     offset: usize,
     len: usize,
@@ -25,11 +24,11 @@ fn lane_char(
     j: usize,
     l: usize,
 ) -> u32
-    requires width { IsWidth w }
-    requires len_value { first (view_tests w (length bytes.now) offset len) ≡ Done }
+    requires len_value { first (view_tests W.BITS (length bytes.now) offset len) ≡ Ok tt }
     requires n_bound { (n ≤ 2 ^ 29) × (j ≤ 2 ^ 33) × (l < 8) }
-    ensures { result ≡ lane_char (chars w bytes.now offset len) n d j l }
+    ensures { result ≡ lane_char (chars W.BITS bytes.now offset len) n d j l }
 {
+    let w = W::BITS;
     if j < d {
         return 0;
     }
@@ -41,8 +40,7 @@ fn lane_char(
 }
 
 // The eight lanes of step j at delay d.
-pub fn lanes_at(
-    w: usize,
+pub fn lanes_at<W: Width>(
     bytes: &[u8],
     offset: usize,
     len: usize,
@@ -50,16 +48,13 @@ pub fn lanes_at(
     d: usize,
     j: usize,
 ) -> [u32; 8]
-    requires width { IsWidth w }
-    requires len_value { first (view_tests w (length bytes.now) offset len) ≡ Done }
+    requires len_value { first (view_tests W.BITS (length bytes.now) offset len) ≡ Ok tt }
     requires n_bound { (n ≤ 2 ^ 29) × (j ≤ 2 ^ 33) }
-    ensures { result ≡ lanes (chars w bytes.now offset len) n d j }
+    ensures { result ≡ lanes (chars W.BITS bytes.now offset len) n d j }
 {
     let mut out: [u32; 8] = [0; 8];
-    let mut l: usize = 0;
-    while l < 8 {
-        out[l] = lane_char(w, bytes, offset, len, n, d, j, l);
-        l += 1;
+    for (l, lane) in out.iter_mut().enumerate() {
+        *lane = lane_char::<W>(bytes, offset, len, n, d, j, l);
     }
     out
 }

@@ -1,4 +1,4 @@
-// Functions with the width as a number, most of which ask something of their callers.
+// Functions generic in the width, most of which ask something of their callers.
 pub mod eight;
 pub mod fills;
 pub mod outcomes;

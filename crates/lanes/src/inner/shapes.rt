@@ -1,13 +1,12 @@
 // The numbers of a stream: lane length, padding and steps, with no sum that could wrap.
-ghost use Rattle.std.specs.Prelude.{[], ◌∷◌, ◌≡◌, ◌+◌, ◌/◌, ◌^◌, ◌≤◌};
-ghost use Rattle.codes.specs.Codes.{IsWidth};
+ghost use Rattle.std.specs.Prelude.{Ok, [], ◌∷◌, ◌≡◌, ◌+◌, ◌/◌, ◌^◌, ◌≤◌};
 ghost use Rattle.codes.specs.Refusals.{first};
-ghost use Rattle.codes.specs.declared.refusals.Outcome.TheVariants.{Done};
 ghost use Rattle.lanes.specs.Plans.{Planned};
 ghost use Rattle.lanes.specs.Lanes.{multiple_above, starts, bad_shape, bad_delays};
 
 use codes::inner::counts::power;
 use codes::units::Chars;
+use codes::widths::Width;
 
 // The most characters of a context or a delay.
 const MOST: usize = 0x8000_0000;
@@ -71,13 +70,12 @@ fn lane_of(s: usize, e: usize) -> usize
     (eighth + ((1 << e) - 1)) >> e << e
 }
 
-fn numbers_of(w: usize, len: usize, context: usize, factor: usize) -> Plan
-    requires width { IsWidth w }
-    requires factor_value { first (bad_shape context factor ∷ []) ≡ Done }
-    ensures { Planned w len context factor result }
+fn numbers_of<W: Width>(len: usize, context: usize, factor: usize) -> Plan
+    requires { first (bad_shape context factor ∷ []) ≡ Ok tt }
+    ensures { Planned W.BITS len context factor result }
 {
     let s = starts_of(len, context);
-    let n = lane_of(s, factor - 1 + power(w));
+    let n = lane_of(s, factor - 1 + power::<W>());
     let behind = 8 * (n - s / 8) - s % 8;
     if len < context {
         return Plan {
@@ -94,10 +92,9 @@ fn numbers_of(w: usize, len: usize, context: usize, factor: usize) -> Plan
 }
 
 // The numbers of a stream over so many characters.
-pub fn plan_of(w: usize, len: Chars, context: Chars, factor: usize) -> Plan
-    requires width { IsWidth w }
-    requires factor_value { first (bad_shape context.0 factor ∷ []) ≡ Done }
-    ensures { Planned w len.0 context.0 factor result }
+pub fn plan_of<W: Width>(len: Chars, context: Chars, factor: usize) -> Plan
+    requires { first (bad_shape context.0 factor ∷ []) ≡ Ok tt }
+    ensures { Planned W.BITS len.0 context.0 factor result }
 {
-    numbers_of(w, len.count(), context.count(), factor)
+    numbers_of::<W>(len.count(), context.count(), factor)
 }

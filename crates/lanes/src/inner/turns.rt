@@ -1,22 +1,22 @@
 // Turns: each lane's next 64 bits in one word, and the characters of eight such words side by side.
-ghost use Rattle.std.specs.Prelude.{◌≡◌, ℕ, ◌+◌, ◌-◌, ◌*◌, ◌/◌, ◌%◌, ◌^◌, ◌≤◌, ◌<◌, length, get_or};
-ghost use Rattle.codes.specs.Codes.{IsWidth, chars};
+ghost use Rattle.std.specs.Prelude.{Ok, ◌≡◌, ℕ, ◌+◌, ◌-◌, ◌*◌, ◌/◌, ◌%◌, ◌^◌, ◌≤◌, ◌<◌, length, get_or};
+ghost use Rattle.codes.specs.Codes.{chars};
 ghost use Rattle.codes.specs.Made.{Made};
 ghost use Rattle.codes.specs.Refusals.{first, view_tests};
-ghost use Rattle.codes.specs.declared.refusals.Outcome.TheVariants.{Done};
 ghost use Rattle.lanes.specs.Turns.{Holds, turned};
 
 use codes::inner::bits::smaller;
 use codes::inner::counts::over_width;
+use codes::widths::Width;
 use fields::inner::loads::bits_at;
 
 // The characters from character i of the view on, as many as 64 bits hold; zeros from the end on.
-fn lane_word(w: usize, turn: usize, bytes: &[u8], offset: usize, len: usize, i: usize) -> u64
-    requires width { IsWidth w }
-    requires len_value { first (view_tests w (length bytes.now) offset len) ≡ Done }
-    requires turn_value { turn ≡ 64 / w }
-    ensures { Holds w (chars w bytes.now offset len) i result }
+fn lane_word<W: Width>(turn: usize, bytes: &[u8], offset: usize, len: usize, i: usize) -> u64
+    requires len_value { first (view_tests W.BITS (length bytes.now) offset len) ≡ Ok tt }
+    requires turn_value { turn ≡ 64 / W.BITS }
+    ensures { Holds W.BITS (chars W.BITS bytes.now offset len) i result }
 {
+    let w = W::BITS;
     if len <= i {
         return 0;
     }
@@ -28,8 +28,7 @@ fn lane_word(w: usize, turn: usize, bytes: &[u8], offset: usize, len: usize, i: 
 }
 
 // The words of eight lanes, n apart, from character i of each on.
-pub fn lane_words(
-    w: usize,
+pub fn lane_words<W: Width>(
     turn: usize,
     bytes: &[u8],
     offset: usize,
@@ -37,16 +36,13 @@ pub fn lane_words(
     n: usize,
     i: usize,
 ) -> [u64; 8]
-    requires width { IsWidth w }
-    requires len_value { first (view_tests w (length bytes.now) offset len) ≡ Done }
-    requires turn_value { (turn ≡ 64 / w) × (n ≤ 2 ^ 29) × (i ≤ 2 ^ 33) }
-    ensures { (l : ℕ) → l < 8 → Holds w (chars w bytes.now offset len) (l * n + i) (get_or result l 0) }
+    requires len_value { first (view_tests W.BITS (length bytes.now) offset len) ≡ Ok tt }
+    requires turn_value { (turn ≡ 64 / W.BITS) × (n ≤ 2 ^ 29) × (i ≤ 2 ^ 33) }
+    ensures { (l : ℕ) → l < 8 → Holds W.BITS (chars W.BITS bytes.now offset len) (l * n + i) (get_or result l 0) }
 {
     let mut out: [u64; 8] = [0; 8];
-    let mut l: usize = 0;
-    while l < 8 {
-        out[l] = lane_word(w, turn, bytes, offset, len, l * n + i);
-        l += 1;
+    for (l, word) in out.iter_mut().enumerate() {
+        *word = lane_word::<W>(turn, bytes, offset, len, l * n + i);
     }
     out
 }
@@ -64,47 +60,40 @@ fn halves(words: [u64; 8], s: usize) -> [u32; 8]
     ensures { (l : ℕ) → l < 8 → get_or result l 0 ≡ get_or words l 0 / 2 ^ s % 2 ^ 32 }
 {
     let mut out: [u32; 8] = [0; 8];
-    let mut l: usize = 0;
-    while l < 8 {
-        out[l] = low_half(words[l] >> s);
-        l += 1;
+    for (l, half) in out.iter_mut().enumerate() {
+        *half = low_half(words[l] >> s);
     }
     out
 }
 
 // Writes the characters at bit s of eight halves from entry e on.
-fn write_step(w: usize, part: [u32; 8], s: usize, out: &mut [u32], e: usize)
-    requires width { IsWidth w }
-    requires s_bound { (s < 32) × (e + 8 ≤ length out.old) }
-    ensures { Made (λ q. get_or part (q - e) 0 / 2 ^ s % 2 ^ w) e (e + 8) out.old out.new }
+fn write_step<W: Width>(part: [u32; 8], s: usize, out: &mut [u32], e: usize)
+    requires { (s < 32) × (e + 8 ≤ length out.old) }
+    ensures { Made (λ q. get_or part (q - e) 0 / 2 ^ s % 2 ^ W.BITS) e (e + 8) out.old out.new }
 {
-    let mut l: usize = 0;
-    while l < 8 {
+    let w = W::BITS;
+    for l in 0..8 {
         out[e + l] = (part[l] >> s) % (1 << w);
-        l += 1;
     }
 }
 
 // Writes the first `count` characters of eight halves from entry e on, a step at a time.
-fn write_half(w: usize, part: [u32; 8], count: usize, out: &mut [u32], e: usize)
-    requires width { IsWidth w }
-    requires count_bound { (w * count ≤ 32) × (e + 8 * count ≤ length out.old) }
-    ensures { Made (turned w part e) e (e + 8 * count) out.old out.new }
+fn write_half<W: Width>(part: [u32; 8], count: usize, out: &mut [u32], e: usize)
+    requires { (W.BITS * count ≤ 32) × (e + 8 * count ≤ length out.old) }
+    ensures { Made (turned W.BITS part e) e (e + 8 * count) out.old out.new }
 {
-    let mut t: usize = 0;
-    while t < count {
-        write_step(w, part, w * t, out, e + 8 * t);
-        t += 1;
+    let w = W::BITS;
+    for t in 0..count {
+        write_step::<W>(part, w * t, out, e + 8 * t);
     }
 }
 
 // Writes the first `count` characters of eight words from entry e on.
-pub(crate) fn write_turn(w: usize, words: [u64; 8], count: usize, out: &mut [u32], e: usize)
-    requires width { IsWidth w }
-    requires count_bound { (w * count ≤ 64) × (e + 8 * count ≤ length out.old) }
-    ensures { Made (turned w words e) e (e + 8 * count) out.old out.new }
+pub(crate) fn write_turn<W: Width>(words: [u64; 8], count: usize, out: &mut [u32], e: usize)
+    requires { (W.BITS * count ≤ 64) × (e + 8 * count ≤ length out.old) }
+    ensures { Made (turned W.BITS words e) e (e + 8 * count) out.old out.new }
 {
-    let first = smaller(count, over_width(w, 32));
-    write_half(w, halves(words, 0), first, out, e);
-    write_half(w, halves(words, 32), count - first, out, e + 8 * first);
+    let first = smaller(count, over_width::<W>(32));
+    write_half::<W>(halves(words, 0), first, out, e);
+    write_half::<W>(halves(words, 32), count - first, out, e + 8 * first);
 }

@@ -120,7 +120,7 @@ pub fn count(
 ) -> u32
     ensures { said result total.new ≡ queried buffer.now len entries.now start end }
 {
-    give::count(
+    give::number(
         flags::count(
             buffer,
             Chars::new(len),
@@ -128,6 +128,7 @@ pub fn count(
             Chars::new(start),
             Chars::new(end),
         ),
+        0,
         total,
     )
 }

@@ -24,16 +24,15 @@ pub fn start(
         ≡ start_answer 0 offset_size count names out.old }
     ensures bytes { out.new ≡ start_after 0 offset_size count names out.old }
 {
-    let started = writing::start(count, names, out);
-    *stop = started.state.stop;
-    give::stepped(started, entry, place, left)
+    give::started(writing::start(count, names, out), entry, stop, place, left)
 }
 
 pub fn record_size(flags: &[u8], flag_offset: usize, flag_len: usize, size: &mut usize) -> u32
     ensures { said result size.new ≡ size_answer flags.now flag_offset flag_len }
 {
-    give::sized(
+    give::number(
         writing::record_size(flags, Chars::new(flag_offset), Chars::new(flag_len)),
+        0,
         size,
     )
 }
@@ -92,13 +91,13 @@ pub fn finish(entry: usize, stop: usize, place: usize, left: usize, size: &mut u
         place,
         left,
     };
-    give::sized(writing::finish(state), size)
+    give::number(writing::finish(state), 0, size)
 }
 
 pub fn check(file: &[u8], count: &mut usize) -> u32
     ensures { said result count.new ≡ check_answer file.now }
 {
-    give::sized(reading::check(file), count)
+    give::number(reading::check(file), 0, count)
 }
 
 pub fn first(file: &[u8], number: &mut usize, at: &mut usize) -> u32

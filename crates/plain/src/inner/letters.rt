@@ -10,23 +10,23 @@ use given::inner::give;
 pub fn pack_char(byte: u8, code: &mut u8) -> u32
     ensures { said result code.new ≡ answer (first (bad_letter byte ∷ [])) (strict byte) 0 }
 {
-    give::symbol(letters::pack_char(byte), code)
+    give::number(letters::pack_char(byte), 0, code)
 }
 
 pub fn unpack_base(code: u8, byte: &mut u8) -> u32
     ensures { said result byte.new ≡ answer (first (bad_code code ∷ [])) (letter code) 0 }
 {
-    give::symbol(letters::unpack_base(code), byte)
+    give::number(letters::unpack_base(code), 0, byte)
 }
 
 pub fn complement_char(byte: u8, pair: &mut u8) -> u32
     ensures { said result pair.new ≡ answer (first (bad_capital byte ∷ [])) (complement_letter byte) 0 }
 {
-    give::symbol(letters::complement_char(byte), pair)
+    give::number(letters::complement_char(byte), 0, pair)
 }
 
 pub fn complement_base(code: u8, pair: &mut u8) -> u32
     ensures { said result pair.new ≡ answer (first (bad_code code ∷ [])) (complement 2 code) 0 }
 {
-    give::symbol(letters::complement_base(code), pair)
+    give::number(letters::complement_base(code), 0, pair)
 }

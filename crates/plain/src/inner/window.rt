@@ -6,8 +6,17 @@ ghost use Rattle.windows.specs.Windows.{windows_answer, windows_after, run_outco
 
 use codes::units::Chars;
 use given::inner::give;
-use windows::answers::Windows;
+use windows::answers::{Ran, Windows};
 use windows::flags::{fill_windows, step_windows};
+
+// Beside a refusal: zero answers, zero counts and step 0.
+const AT_ZERO: Ran = Ran {
+    answers: [0; 8],
+    state: Windows {
+        counts: [0; 8],
+        step: 0,
+    },
+};
 
 pub fn fill(
     bytes: &[u8],
@@ -57,10 +66,9 @@ pub fn step(
         ≡ run_state bytes.now offset len context k (state counts.old step.old) }
 {
     let before = *counts;
-    let at = *step;
     let state = Windows {
         counts: before,
-        step: at,
+        step: *step,
     };
     let ran = step_windows(
         bytes,
@@ -70,12 +78,12 @@ pub fn step(
         Chars::new(k),
         state,
     );
+    let (no, ran) = give::split(ran, AT_ZERO);
     let windows = ran.answers;
     let next = ran.state;
     let after = next.counts;
-    let outcome = ran.outcome;
     *answers = windows;
     *counts = after;
     *step = next.step;
-    give::no(outcome)
+    no
 }

@@ -2,6 +2,8 @@
 ghost use Rattle.std.specs.Prelude.{[], ◌∷◌, ◌+◌, ◌≤◌, ◌<◌, length};
 ghost use Rattle.rows.specs.Columns.{Put, decimal, columns};
 
+use codes::inner::tracks::copy;
+
 pub fn put_byte(byte: u8, out: &mut [u8], at: usize) -> usize
     requires { at < length out.old }
     ensures { Put out.old at (byte ∷ []) out.new result }
@@ -14,13 +16,8 @@ pub fn put_text(text: &[u8], out: &mut [u8], at: usize) -> usize
     requires { at + length text.now ≤ length out.old }
     ensures { Put out.old at text.now out.new result }
 {
-    let n = text.len();
-    let mut i = 0;
-    while i < n {
-        out[at + i] = text[i];
-        i += 1;
-    }
-    at + n
+    copy(text, &mut out[at..]);
+    at + text.len()
 }
 
 // The digits of a number, made from the last one on.
@@ -31,6 +28,7 @@ pub fn put_decimal(n: u64, out: &mut [u8], at: usize) -> usize
     let mut text = [0u8; 20];
     let mut i: usize = 20;
     let mut rest = n;
+    // By what is left of the number: no range to go over.
     while 9 < rest {
         i -= 1;
         text[i] = 48 + (rest % 10) as u8;

@@ -5,9 +5,10 @@ ghost use Rattle.writes.specs.Writes.{flipped_over};
 ghost use Rattle.rows.specs.Columns.{strand_of};
 
 use codes::units::Chars;
-use order::answers::{Compared, Order};
-use order::bases::compare;
-use writes::bases::to_revcomp;
+use codes::widths::Bases;
+use order::calls::compare;
+use std::cmp::Ordering;
+use writes::calls::to_revcomp;
 
 // The bytes of a buffer for 16,384 bases.
 pub const BASES: usize = 4144;
@@ -20,13 +21,11 @@ pub fn strand(bases: &[u8; BASES], count: usize, other: &mut [u8; BASES]) -> u8
 {
     let none = Chars::new(0);
     let len = Chars::new(count);
-    to_revcomp(bases, none, len, other);
-    match compare(bases, none, len, other, none, len) {
-        Compared::Is(order, _) => match order {
-            Order::Less => b'<',
-            Order::Equal => b'=',
-            Order::Greater => b'>',
-        },
-        Compared::Refused(_) => b'=',
+    to_revcomp::<Bases>(bases, none, len, other).unwrap();
+    let compared = compare::<Bases>(bases, none, len, other, none, len).unwrap();
+    match compared.order {
+        Ordering::Less => b'<',
+        Ordering::Equal => b'=',
+        Ordering::Greater => b'>',
     }
 }

@@ -1,4 +1,4 @@
-// Functions with the width as a number, which ask something of their callers.
+// Functions generic in the width, which ask something of their callers.
 pub mod edges;
 pub mod seqs;
 pub mod whole;

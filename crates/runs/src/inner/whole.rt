@@ -39,10 +39,8 @@ fn spread(letters: &[u8], i: usize) -> [u8; 64]
     ensures { result ≡ tab 64 (λ k. code 1 (get_or letters.now (i + k) 0)) }
 {
     let mut out: [u8; 64] = [0; 64];
-    let mut k: usize = 0;
-    while k < 64 {
-        out[k] = flag_of(letters[i + k]);
-        k += 1;
+    for (k, flag) in out.iter_mut().enumerate() {
+        *flag = flag_of(letters[i + k]);
     }
     out
 }
@@ -78,10 +76,8 @@ pub(crate) fn flags_of(letters: &[u8], i: usize, n: usize) -> u64
     ensures { result ≡ letters_word 1 (8 * n) letters.now i }
 {
     let mut y: u64 = 0;
-    let mut k: usize = 0;
-    while k < n {
-        y = y | (flags_in(load64(letters, i + 8 * k)) << k);
-        k += 1;
+    for k in 0..n {
+        y |= flags_in(load64(letters, i + 8 * k)) << k;
     }
     turn(y)
 }
@@ -93,10 +89,8 @@ fn flags64(letters: &[u8], i: usize) -> u64
 {
     let bits = spread(letters, i);
     let mut y: u64 = 0;
-    let mut k: usize = 0;
-    while k < 8 {
-        y = y | (load64(&bits, 8 * k) << k);
-        k += 1;
+    for k in 0..8 {
+        y |= load64(&bits, 8 * k) << k;
     }
     turn(y)
 }
@@ -107,12 +101,8 @@ pub(crate) fn bases_run(buffer: &mut [u8], from: usize, to: usize, letters: &[u8
     requires from_in_bounds { first + (to - from) * 4 ≤ length letters.now }
     ensures { Made (λ j. letters_word 2 4 letters.now (first + (j - from) * 4)) from to buffer.old buffer.new }
 {
-    let mut j = from;
-    let mut i = first;
-    while j < to {
-        buffer[j] = bases4(letters, i);
-        i += 4;
-        j += 1;
+    for (i, byte) in buffer[from..to].iter_mut().enumerate() {
+        *byte = bases4(letters, first + i * 4);
     }
 }
 
@@ -123,11 +113,9 @@ fn flags_bytes(buffer: &mut [u8], from: usize, to: usize, letters: &[u8], first:
     ensures { Made (λ j. letters_word 1 8 letters.now (first + (j - from) * 8)) from to buffer.old buffer.new }
 {
     let mut rest = flags_of(letters, first, to - from);
-    let mut j = from;
-    while j < to {
-        buffer[j] = (rest % 0x100) as u8;
-        rest = rest >> 8;
-        j += 1;
+    for byte in buffer[from..to].iter_mut() {
+        *byte = (rest % 0x100) as u8;
+        rest >>= 8;
     }
 }
 
@@ -137,14 +125,10 @@ fn flags_words(buffer: &mut [u8], from: usize, to: usize, letters: &[u8], first:
     requires from_in_bounds { first + (to - from) * 8 ≤ length letters.now }
     ensures { Made (λ j. letters_word 1 8 letters.now (first + (j - from) * 8)) from to buffer.old buffer.new }
 {
-    let mut j = from;
-    let mut i = first;
-    while 8 < to - j {
-        store64(buffer, j, flags64(letters, i));
-        i += 64;
-        j += 8;
-    }
     let last = to - 8;
+    for j in (from..last).step_by(8) {
+        store64(buffer, j, flags64(letters, first + (j - from) * 8));
+    }
     store64(buffer, last, flags64(letters, first + (last - from) * 8));
 }
 

@@ -1,3 +1,2 @@
-// What the public calls are made of, with the width as a number. Only these functions ask anything of their callers.
-pub mod calls;
+// What the public calls are made of, generic in the width. Only these functions ask anything of their callers.
 pub mod outcomes;

@@ -1,5 +1,3 @@
 // What the public calls are made of. Only these functions ask anything of their callers.
-pub mod fills;
 pub mod outcomes;
-pub mod shapes;
 pub mod steps;

@@ -31,16 +31,13 @@ pub(crate) fn all_inside(file: &[u8], big: bool, p: usize, n: usize, size: usize
     requires { (n ≡ block_count big file.now p) × (blocks_end big file.now p ≤ length file.now) }
     ensures { result ≡ all_inside size (blocks_at big file.now p) }
 {
-    let mut inside = true;
-    let mut i = n;
-    while 0 < i {
-        i -= 1;
+    for i in 0..n {
         let block = block_at(file, big, p, n, i);
         if size < block.end {
-            inside = false;
+            return false;
         }
     }
-    inside
+    true
 }
 
 // Whether block i of n shares no position with a later one.
@@ -50,18 +47,15 @@ fn clear_of(file: &[u8], big: bool, p: usize, n: usize, i: usize) -> bool
         clear_of (block_at big file.now p i) (blocks_from (block_at big file.now p) (i + 1) (n - (i + 1))) }
 {
     let a = block_at(file, big, p, n, i);
-    let mut clear = true;
-    let mut j = n;
-    while i + 1 < j {
-        j -= 1;
+    for j in i + 1..n {
         let b = block_at(file, big, p, n, j);
         let from = if a.start < b.start { b.start } else { a.start };
         let to = if a.end < b.end { a.end } else { b.end };
         if from < to {
-            clear = false;
+            return false;
         }
     }
-    clear
+    true
 }
 
 // Whether no two of the n blocks share a position. From the last to the first: a block that ends before all later ones begin, or begins
@@ -73,9 +67,7 @@ pub(crate) fn all_apart(file: &[u8], big: bool, p: usize, n: usize) -> bool
     let mut right = true;
     let mut low: usize = 0x2_0000_0000;
     let mut high: usize = 0;
-    let mut i = n;
-    while 0 < i {
-        i -= 1;
+    for i in (0..n).rev() {
         let block = block_at(file, big, p, n, i);
         if block.start < block.end {
             if low < block.end {

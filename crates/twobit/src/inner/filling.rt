@@ -9,65 +9,51 @@ ghost use Rattle.twobit.specs.Inner.{ready_says, held_at, none_held};
 ghost use Rattle.twobit.specs.Reading.{block_count, blocks_at, blocks_end, record_tests};
 
 use crate::inner::blocks::block_at;
-use crate::inner::files::{Header, header_of};
+use crate::inner::files::header_of;
 use crate::inner::records::{Parts, record_at};
 use codes::inner::checks::{bad_store, too_long};
 use codes::inner::tracks::zero_run;
 use codes::refusals::Refusal;
 use codes::units::{Chars, TRAILING};
+use codes::widths::{Bases, Flags};
 use dna::inner::marks::mark_run;
 
-// A record that can be read: the byte order, the size, the number of N blocks and of mask blocks, where the packed bases begin.
+// A record that can be read: the byte order, and its parts.
 #[derive(Clone, Copy)]
-pub enum Ready {
-    Is {
-        big: bool,
-        size: usize,
-        blocks: usize,
-        masks: usize,
-        dna: usize,
-    },
-    Refused(Refusal),
+pub struct Ready {
+    pub big: bool,
+    pub parts: Parts,
 }
 
 // Whether the record at byte r can be read into buffers of so many bytes.
-pub(crate) fn record_ready(file: &[u8], r: usize, base_room: usize, flag_room: usize) -> Ready
+pub(crate) fn record_ready(
+    file: &[u8],
+    r: usize,
+    base_room: usize,
+    flag_room: usize,
+) -> Result<Ready, Refusal>
     ensures { ready_says result ≡
         answer (first (record_tests file.now r base_room flag_room)) (held_at file.now r) none_held }
 {
     if too_long(base_room) {
-        return Ready::Refused(Refusal::TooLong);
+        return Err(Refusal::TooLong);
     }
     if too_long(flag_room) {
-        return Ready::Refused(Refusal::TooLong);
+        return Err(Refusal::TooLong);
     }
-    match header_of(file) {
-        Header::Bad => Ready::Refused(Refusal::BadForm),
-        Header::Is { big, .. } => match record_at(file, big, r) {
-            Parts::Bad => Ready::Refused(Refusal::BadForm),
-            Parts::Is {
-                size,
-                blocks,
-                masks,
-                dna,
-                ..
-            } => {
-                if bad_store(2, base_room, Chars::new(size)) {
-                    return Ready::Refused(Refusal::NoRoom);
-                }
-                if bad_store(1, flag_room, Chars::new(size)) {
-                    return Ready::Refused(Refusal::NoRoom);
-                }
-                Ready::Is {
-                    big,
-                    size,
-                    blocks,
-                    masks,
-                    dna,
-                }
-            }
-        },
+    let header = header_of(file).ok_or(Refusal::BadForm)?;
+    let parts = record_at(file, header.big, r).ok_or(Refusal::BadForm)?;
+    let len = Chars::new(parts.size);
+    if bad_store::<Bases>(base_room, len) {
+        return Err(Refusal::NoRoom);
     }
+    if bad_store::<Flags>(flag_room, len) {
+        return Err(Refusal::NoRoom);
+    }
+    Ok(Ready {
+        big: header.big,
+        parts,
+    })
 }
 
 // Fills a buffer as a store of `size` flags, set under each of the n blocks from byte p on.
@@ -78,11 +64,9 @@ pub(crate) fn fill_flags(file: &[u8], big: bool, p: usize, n: usize, size: usize
     ensures { flags.new ≡
         filled_with (packed 1 (tab size (flag_under (blocks_at big file.now p)))) flags.old }
 {
-    let used = Chars::new(size).bytes_as_flags().count();
+    let used = Chars::new(size).bytes_as::<Flags>().count();
     zero_run(flags, 0, used + TRAILING);
-    let mut i = n;
-    while 0 < i {
-        i -= 1;
+    for i in (0..n).rev() {
         let block = block_at(file, big, p, n, i);
         mark_run(flags, block.start, block.end);
     }

@@ -6,25 +6,25 @@ ghost use Rattle.twobit.specs.Files.{header_size, header_of};
 ghost use Rattle.twowrite.specs.Writing.{start_tests};
 
 use crate::inner::numbers::put_number;
-use codes::refusals::{Outcome, Refusal};
+use codes::refusals::Refusal;
 use twobit::inner::{HEADER, SIGNATURE};
 
 // The refusals of a file of n sequences, whose names have m bytes together, in so many bytes.
-pub(crate) fn start_outcome(k: usize, n: usize, m: usize, room: usize) -> Outcome
+pub(crate) fn start_outcome(k: usize, n: usize, m: usize, room: usize) -> Result<(), Refusal>
     requires { k ≤ 8 }
     ensures { result ≡ first (start_tests k n m room) }
 {
     if 0xffff_ffff < n {
-        return Outcome::Refused(Refusal::BadRange);
+        return Err(Refusal::BadRange);
     }
     let fixed = HEADER + n * (k + 1);
     if room < fixed {
-        return Outcome::Refused(Refusal::NoRoom);
+        return Err(Refusal::NoRoom);
     }
     if room - fixed < m {
-        return Outcome::Refused(Refusal::NoRoom);
+        return Err(Refusal::NoRoom);
     }
-    Outcome::Done
+    Ok(())
 }
 
 // Writes the header of a file of n sequences.

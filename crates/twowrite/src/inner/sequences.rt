@@ -1,26 +1,26 @@
 // Writing a sequence: whether it can be added, its entry and its record.
-ghost use Rattle.std.specs.Prelude.{false, ◌++◌, ◌≡◌, ◌+◌, ◌*◌, ◌≤◌, length};
+ghost use Rattle.std.specs.Prelude.{Ok, false, ◌++◌, ◌≡◌, ◌+◌, ◌*◌, ◌≤◌, length};
 ghost use Rattle.std.proofs.lemmas.List.Edits.{sets};
+ghost use Rattle.codes.specs.Answers.{says};
 ghost use Rattle.codes.specs.Codes.{chars};
 ghost use Rattle.codes.specs.Refusals.{answer, first, view_tests};
-ghost use Rattle.codes.specs.declared.refusals.Outcome.TheVariants.{Done};
 ghost use Rattle.fields.specs.Runs.{runs};
-ghost use Rattle.twobit.specs.Answers.{sized_says};
 ghost use Rattle.twobit.specs.Files.{entry_of, entry_size, record_of, record_size, each};
-ghost use Rattle.twowrite.specs.Writing.{add_tests, bad_state, far_record, writing};
+ghost use Rattle.twowrite.specs.Writing.{add_tests, bad_state, far_record};
 
+use crate::answers::Writing;
 use crate::inner::numbers::put_number;
 use codes::inner::checks::{bad_view, too_long};
+use codes::inner::tracks::copy;
 use codes::refusals::Refusal;
 use codes::units::Chars;
+use codes::widths::{Bases, Flags};
 use dna::inner::writing::write_dna;
 use fields::inner::runs::{count_runs, run_end};
-use forms::inner::tracks::copy;
-use twobit::answers::Sized;
 
 // Writes the starts of the runs, then their sizes.
 fn write_runs(flags: &[u8], bo: usize, len: usize, count: usize, out: &mut [u8], at: usize)
-    requires len_value { first (view_tests 1 (length flags.now) bo len) ≡ Done }
+    requires len_value { first (view_tests 1 (length flags.now) bo len) ≡ Ok tt }
     requires count_value { (count ≡ length (runs (chars 1 flags.now bo len))) × (at + 8 * count ≤ length out.old) }
     ensures { out.new ≡
         sets out.old at
@@ -29,14 +29,12 @@ fn write_runs(flags: &[u8], bo: usize, len: usize, count: usize, out: &mut [u8],
     let sizes = at + 4 * count;
     let end = bo + len;
     let mut p = bo;
-    let mut i: usize = 0;
-    while i < count {
-        let start = run_end(flags, p, end, 0);
-        let stop = run_end(flags, start, end, 1);
+    for i in 0..count {
+        let start = run_end(flags, p, end, false);
+        let stop = run_end(flags, start, end, true);
         put_number(start - bo, 4, out, at + 4 * i);
         put_number(stop - start, 4, out, sizes + 4 * i);
         p = stop;
-        i += 1;
     }
 }
 
@@ -51,8 +49,8 @@ pub(crate) fn write_record(
     out: &mut [u8],
     at: usize,
 )
-    requires len_value { first (view_tests 2 (length bases.now) ao len) ≡ Done }
-    requires len_value_2 { first (view_tests 1 (length flags.now) bo len) ≡ Done }
+    requires len_value { first (view_tests 2 (length bases.now) ao len) ≡ Ok tt }
+    requires len_value_2 { first (view_tests 1 (length flags.now) bo len) ≡ Ok tt }
     requires count_value { (count ≡ length (runs (chars 1 flags.now bo len))) × (at + record_size (chars 1 flags.now bo len) ≤ length out.old) }
     ensures { out.new ≡
         sets out.old at (record_of false (chars 2 bases.now ao len) (chars 1 flags.now bo len)) }
@@ -95,29 +93,26 @@ fn far_record(k: usize, at: usize) -> bool
 }
 
 // Whether none is left, the entry of a name of n bytes does not fit into the index, or the index does not end before the record.
-fn bad_state(k: usize, entry: usize, stop: usize, place: usize, left: usize, n: usize) -> bool
+fn bad_state(k: usize, state: Writing, n: usize) -> bool
     requires { (k ≤ 8) × (n ≤ 255) }
-    ensures { result ≡ (bad_state k (writing entry stop place left) n).0 }
+    ensures { result ≡ (bad_state k state n).0 }
 {
-    if left == 0 {
+    if state.left == 0 {
         return true;
     }
-    if stop < entry {
+    if state.stop < state.entry {
         return true;
     }
-    if stop - entry < n + k + 1 {
+    if state.stop - state.entry < n + k + 1 {
         return true;
     }
-    place < stop
+    state.place < state.stop
 }
 
 // How many runs the flags of a sequence that can be added have.
 pub(crate) fn add_ready(
     k: usize,
-    entry: usize,
-    stop: usize,
-    place: usize,
-    left: usize,
+    state: Writing,
     name: usize,
     bases: &[u8],
     ao: Chars,
@@ -126,45 +121,45 @@ pub(crate) fn add_ready(
     bo: Chars,
     bl: Chars,
     room: usize,
-) -> Sized
+) -> Result<usize, Refusal>
     requires { k ≤ 8 }
-    ensures { sized_says result ≡
-        answer (first (add_tests k (writing entry stop place left) name (length bases.now) ao.0 al.0 flags.now bo.0 bl.0 room))
+    ensures { says result ≡
+        answer (first (add_tests k state name (length bases.now) ao.0 al.0 flags.now bo.0 bl.0 room))
         (length (runs (chars 1 flags.now bo.0 bl.0))) 0 }
 {
     let m = bases.len();
     let n = flags.len();
     if too_long(m) {
-        return Sized::Refused(Refusal::TooLong);
+        return Err(Refusal::TooLong);
     }
     if too_long(n) {
-        return Sized::Refused(Refusal::TooLong);
+        return Err(Refusal::TooLong);
     }
-    if bad_view(2, m, ao, al) {
-        return Sized::Refused(Refusal::BadView);
+    if bad_view::<Bases>(m, ao, al) {
+        return Err(Refusal::BadView);
     }
-    if bad_view(1, n, bo, bl) {
-        return Sized::Refused(Refusal::BadView);
+    if bad_view::<Flags>(n, bo, bl) {
+        return Err(Refusal::BadView);
     }
     if al.count() != bl.count() {
-        return Sized::Refused(Refusal::BadRange);
+        return Err(Refusal::BadRange);
     }
     if 255 < name {
-        return Sized::Refused(Refusal::BadRange);
+        return Err(Refusal::BadRange);
     }
-    if bad_state(k, entry, stop, place, left, name) {
-        return Sized::Refused(Refusal::BadRange);
+    if bad_state(k, state, name) {
+        return Err(Refusal::BadRange);
     }
-    if far_record(k, place) {
-        return Sized::Refused(Refusal::BadRange);
+    if far_record(k, state.place) {
+        return Err(Refusal::BadRange);
     }
     let count = count_runs(flags, bo.count(), bl.count());
-    let size = 16 + 8 * count + al.bytes_as_bases().count();
-    if room < place {
-        return Sized::Refused(Refusal::NoRoom);
+    let size = 16 + 8 * count + al.bytes_as::<Bases>().count();
+    if room < state.place {
+        return Err(Refusal::NoRoom);
     }
-    if room - place < size {
-        return Sized::Refused(Refusal::NoRoom);
+    if room - state.place < size {
+        return Err(Refusal::NoRoom);
     }
-    Sized::Is(count)
+    Ok(count)
 }

@@ -25,12 +25,10 @@ pub(crate) fn bad_counts(most: usize, counts: [u32; 8], enter: [u32; 8], leave: 
     requires { (most ≤ 95) × ((l : ℕ) → get_or enter l 0 < 16) }
     ensures { result ≡ any_lane 8 (λ l. ltb most (get_or counts l 0) || ltb (get_or counts l 0 + get_or enter l 0) (get_or leave l 0)) }
 {
-    let mut l: usize = 0;
-    while l < 8 {
+    for l in 0..8 {
         if bad_lane(most, wide(counts[l]), wide(enter[l]), wide(leave[l])) {
             return true;
         }
-        l += 1;
     }
     false
 }
@@ -48,10 +46,8 @@ pub(crate) fn answers_of(counts: [u32; 8], enter: [u32; 8]) -> [u32; 8]
     ensures { result ≡ tab 8 (λ l. pick (ltb 0 (get_or counts l 0 + get_or enter l 0)) 0xffff_ffff 0) }
 {
     let mut out: [u32; 8] = [0; 8];
-    let mut l: usize = 0;
-    while l < 8 {
+    for l in 0..8 {
         out[l] = above(counts[l] + enter[l]);
-        l += 1;
     }
     out
 }
@@ -62,10 +58,8 @@ pub(crate) fn counts_after(counts: [u32; 8], enter: [u32; 8], leave: [u32; 8]) -
     ensures { result ≡ tab 8 (λ l. get_or counts l 0 + get_or enter l 0 - get_or leave l 0) }
 {
     let mut out: [u32; 8] = [0; 8];
-    let mut l: usize = 0;
-    while l < 8 {
+    for l in 0..8 {
         out[l] = counts[l] + enter[l] - leave[l];
-        l += 1;
     }
     out
 }

@@ -17,10 +17,8 @@ fn mark(words: [u64; 8], t: usize, stop: usize, marks: [usize; 8]) -> [usize; 8]
     ensures { result ≡ tab 8 (λ l. pick (eqb (get_or words l 0 / 2 ^ t % 2) 1) stop (get_or marks l 0)) }
 {
     let mut out: [usize; 8] = [0; 8];
-    let mut l: usize = 0;
-    while l < 8 {
+    for l in 0..8 {
         out[l] = later(words[l] >> t, stop, marks[l]);
-        l += 1;
     }
     out
 }
@@ -37,10 +35,8 @@ fn write_marks(marks: [usize; 8], j: usize, out: &mut [u32], e: usize)
     requires { e + 8 ≤ length out.old }
     ensures { Made (λ q. shown j (get_or marks (q - e) 0)) e (e + 8) out.old out.new }
 {
-    let mut l: usize = 0;
-    while l < 8 {
+    for l in 0..8 {
         out[e + l] = show(j, marks[l]);
-        l += 1;
     }
 }
 
@@ -69,12 +65,10 @@ pub(crate) fn write_windows(
     ensures { TurnsMarks k skip j count words marks result out.old out.new }
 {
     let mut now = marks;
-    let mut t: usize = 0;
-    while t < count {
+    for t in 0..count {
         let next = mark(words, t, j + t + k, now);
         write_from(next, j + t, skip, out);
         now = next;
-        t += 1;
     }
     now
 }

@@ -3,8 +3,9 @@ ghost use Rattle.std.specs.Prelude.{◌≡◌, ◌≤◌};
 ghost use Rattle.codes.specs.Refusals.{first};
 ghost use Rattle.windows.specs.Windows.{window_tests, bad_window, partial};
 
-use codes::refusals::{Outcome, Refusal};
+use codes::refusals::Refusal;
 use codes::units::Chars;
+use codes::widths::Flags;
 use fields::inner::parts::view_outcome;
 use lanes::inner::shapes::bad_shape;
 
@@ -41,19 +42,15 @@ pub(crate) fn window_outcome(
     len: Chars,
     context: Chars,
     k: Chars,
-) -> Outcome
+) -> Result<(), Refusal>
     ensures { result ≡ first (window_tests bytes.now offset.0 len.0 context.0 k.0) }
 {
-    match view_outcome(1, bytes, offset, len) {
-        Outcome::Refused(refusal) => Outcome::Refused(refusal),
-        Outcome::Done => {
-            if bad_shape(context, 1) {
-                return Outcome::Refused(Refusal::BadStream);
-            }
-            if bad_window(k) {
-                return Outcome::Refused(Refusal::BadStream);
-            }
-            Outcome::Done
-        }
+    view_outcome::<Flags>(bytes, offset, len)?;
+    if bad_shape(context, 1) {
+        return Err(Refusal::BadStream);
     }
+    if bad_window(k) {
+        return Err(Refusal::BadStream);
+    }
+    Ok(())
 }

@@ -1,25 +1,20 @@
 // The capital letters of a view's bases: whole bytes four letters at a time, and the bases before and behind them one at a time.
 ghost use Rattle.std.specs.Prelude.{◌≡◌, ◌+◌, ◌-◌, ◌*◌, ◌^◌, ◌≤◌, length};
 ghost use Rattle.codes.specs.Made.{Made};
-ghost use Rattle.codes.specs.Refusals.{if_done};
-ghost use Rattle.writes.specs.Writes.{letter_at, unpack_outcome, unpacked_over};
+ghost use Rattle.writes.specs.Writes.{letter_at};
 
 use codes::inner::packing::low_letter;
 use codes::inner::tracks::digit;
-use codes::refusals::{Outcome, Refusal};
-use codes::units::Chars;
-use fields::inner::parts::view_outcome;
+use codes::widths::Bases;
 
 // Letters `from` up to `to`.
 fn write_some(bytes: &[u8], o: usize, from: usize, to: usize, out: &mut [u8])
     requires { (from ≤ to) × (to ≤ length out.old) × (o + to ≤ length bytes.now * 4) × (length bytes.now ≤ 2 ^ 28) }
     ensures { Made (letter_at bytes.now o) from to out.old out.new }
 {
-    let mut i = from;
-    while i < to {
+    for i in from..to {
         let p = o + i;
-        out[i] = low_letter(digit(bytes[p / 4], 2, p % 4));
-        i += 1;
+        out[i] = low_letter(digit::<Bases>(bytes[p / 4], p % 4));
     }
 }
 
@@ -28,21 +23,18 @@ fn write_whole(bytes: &[u8], o: usize, at: usize, stop: usize, out: &mut [u8])
     requires { (at ≤ stop) × (o ≤ at * 4) × (stop ≤ length bytes.now) × (stop * 4 ≤ o + length out.old) × (length bytes.now ≤ 2 ^ 28) }
     ensures { Made (letter_at bytes.now o) (at * 4 - o) (stop * 4 - o) out.old out.new }
 {
-    let mut b = at;
-    let mut i = at * 4 - o;
-    while b < stop {
+    for b in at..stop {
         let x = bytes[b];
+        let i = b * 4 - o;
         out[i] = low_letter(x);
         out[i + 1] = low_letter(x / 4);
         out[i + 2] = low_letter(x / 16);
         out[i + 3] = low_letter(x / 64);
-        b += 1;
-        i += 4;
     }
 }
 
 // The letters of n bases from base o on.
-fn write_letters(bytes: &[u8], o: usize, n: usize, out: &mut [u8])
+pub(crate) fn write_letters(bytes: &[u8], o: usize, n: usize, out: &mut [u8])
     requires { (n ≤ length out.old) × (o + n ≤ length bytes.now * 4) × (length bytes.now ≤ 2 ^ 28) }
     ensures { Made (letter_at bytes.now o) 0 n out.old out.new }
 {
@@ -54,23 +46,5 @@ fn write_letters(bytes: &[u8], o: usize, n: usize, out: &mut [u8])
         write_some(bytes, o, 0, at * 4 - o, out);
         write_whole(bytes, o, at, stop, out);
         write_some(bytes, o, stop * 4 - o, n, out);
-    }
-}
-
-// Writes a view's letters to the front of a buffer.
-pub fn unpack_view(bytes: &[u8], offset: Chars, len: Chars, out: &mut [u8]) -> Outcome
-    ensures outcome { result ≡ unpack_outcome bytes.now offset.0 len.0 out.old }
-    ensures bytes { out.new ≡ if_done result (unpacked_over bytes.now offset.0 len.0 out.old) out.old }
-{
-    match view_outcome(2, bytes, offset, len) {
-        Outcome::Refused(refusal) => Outcome::Refused(refusal),
-        Outcome::Done => {
-            let n = len.count();
-            if out.len() < n {
-                return Outcome::Refused(Refusal::NoRoom);
-            }
-            write_letters(bytes, offset.count(), n, out);
-            Outcome::Done
-        }
     }
 }

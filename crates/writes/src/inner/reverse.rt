@@ -1,39 +1,32 @@
 // A view reversed, bases complemented, into a lent buffer: a word of output is the flip of a word from the view's end, and what is left
 // below a word goes by a table of the flips of bytes.
-ghost use Rattle.std.specs.Prelude.{◌≡◌, ◌+◌, ◌-◌, ◌*◌, ◌/◌, ◌%◌, ◌^◌, ◌≤◌, ◌<◌, length};
-ghost use Rattle.codes.specs.Codes.{IsWidth, up, trailing};
+ghost use Rattle.std.specs.Prelude.{Ok, ◌≡◌, ◌+◌, ◌-◌, ◌*◌, ◌/◌, ◌%◌, ◌^◌, ◌≤◌, ◌<◌, length};
+ghost use Rattle.codes.specs.Codes.{up, trailing};
 ghost use Rattle.codes.specs.Made.{Made};
-ghost use Rattle.codes.specs.Refusals.{first, if_done, view_tests};
+ghost use Rattle.codes.specs.Refusals.{first, view_tests};
 ghost use Rattle.codes.specs.Words.{word};
-ghost use Rattle.codes.specs.declared.refusals.Outcome.TheVariants.{Done};
 ghost use Rattle.writes.specs.Flips.{flipped_byte, looked_up};
-ghost use Rattle.writes.specs.Writes.{flip_outcome, flipped_over};
+ghost use Rattle.writes.specs.Writes.{flipped_over};
 
 use crate::inner::tables::{base_flips, flag_flips};
-use codes::inner::flips::flip_word;
 use codes::inner::tracks::zero_run;
-use codes::refusals::{Outcome, Refusal};
-use codes::units::{Chars, TRAILING};
+use codes::units::TRAILING;
+use codes::widths::Width;
 use fields::inner::loads::{peek, word_at};
-use fields::inner::parts::view_outcome;
 use fields::inner::writes::store64;
 
 // The whole words of the `bits` bits from bit p on, reversed.
-fn flip_words(w: usize, bytes: &[u8], p: usize, bits: usize, out: &mut [u8])
-    requires width { IsWidth w }
-    requires w_bound { w ≤ 2 }
-    requires w_value { w * (bits / w) ≡ bits }
+fn flip_words<W: Width>(bytes: &[u8], p: usize, bits: usize, out: &mut [u8])
+    requires bits_value { W.BITS * (bits / W.BITS) ≡ bits }
     requires bits_bound { (p + bits < 2 ^ 32) × (p + bits + 384 ≤ 8 * length bytes.now) × (bits ≤ 8 * length out.old) }
-    ensures { Made (flipped_byte w (word 8 bytes.now / 2 ^ p) bits) 0 (bits / 64 * 8) out.old out.new }
+    ensures { Made (flipped_byte W.BITS (word 8 bytes.now / 2 ^ p) bits) 0 (bits / 64 * 8) out.old out.new }
 {
     // A word begins at bit s of a byte, and s is the same for all of them.
     let s = (p + bits) % 8;
-    let mut from = (p + bits) / 8;
-    let mut at: usize = 0;
-    while 8 * at + 64 <= bits {
-        from -= 8;
-        store64(out, at, flip_word(w, word_at(bytes, from, s)));
-        at += 8;
+    let end = (p + bits) / 8;
+    for i in 0..bits / 64 {
+        let from = end - 8 * (i + 1);
+        store64(out, 8 * i, W::flip_word(word_at(bytes, from, s)));
     }
 }
 
@@ -65,28 +58,25 @@ fn flip_bytes(table: &[u8; 256], bytes: &[u8], p: usize, bits: usize, from: usiz
     ensures { Made (λ at. looked_up table.now (word 8 bytes.now / 2 ^ p) (bits - 8 * at))
         from ((bits + 7) / 8) out.old out.new }
 {
-    let mut at = from;
-    while 8 * at < bits {
+    for at in from..(bits + 7) / 8 {
         out[at] = flip_byte(table, bytes, p, bits - 8 * at);
-        at += 1;
     }
 }
 
 // What is left below a whole word, in bytes. The compiled code makes a table anew wherever it is asked for: so once for all bytes, and only
 // where there are any.
-fn flip_rest(w: usize, bytes: &[u8], p: usize, bits: usize, out: &mut [u8])
-    requires width { IsWidth w }
-    requires w_bound { w ≤ 2 }
-    requires w_value { w * (bits / w) ≡ bits }
+fn flip_rest<W: Width>(bytes: &[u8], p: usize, bits: usize, out: &mut [u8])
+    requires bits_value { W.BITS * (bits / W.BITS) ≡ bits }
     requires bits_bound { (p + bits < 2 ^ 32) × (p + bits + 384 ≤ 8 * length bytes.now) × (bits ≤ 8 * length out.old) }
-    ensures { Made (flipped_byte w (word 8 bytes.now / 2 ^ p) bits) (bits / 64 * 8) ((bits + 7) / 8)
+    ensures { Made (flipped_byte W.BITS (word 8 bytes.now / 2 ^ p) bits) (bits / 64 * 8) ((bits + 7) / 8)
         out.old out.new }
 {
     if bits % 64 == 0 {
         return;
     }
     let from = bits / 64 * 8;
-    if w == 2 {
+    // Known when this is compiled; a trait of its own over `Width` would be one bound more on each function above.
+    if W::BITS == 2 {
         let table = base_flips();
         flip_bytes(&table, bytes, p, bits, from, out);
     } else {
@@ -96,37 +86,21 @@ fn flip_rest(w: usize, bytes: &[u8], p: usize, bits: usize, out: &mut [u8])
 }
 
 // The reversed view, and 48 zeros.
-fn write_flipped(w: usize, bytes: &[u8], o: usize, len: usize, used: usize, out: &mut [u8])
-    requires width { IsWidth w }
-    requires w_bound { w ≤ 2 }
-    requires len_value { first (view_tests w (length bytes.now) o len) ≡ Done }
-    requires used_value { (used ≡ up w len) × (used + trailing ≤ length out.old) }
-    ensures { out.new ≡ flipped_over w bytes.now o len out.old }
+pub(crate) fn write_flipped<W: Width>(
+    bytes: &[u8],
+    o: usize,
+    len: usize,
+    used: usize,
+    out: &mut [u8],
+)
+    requires len_value { first (view_tests W.BITS (length bytes.now) o len) ≡ Ok tt }
+    requires used_value { (used ≡ up W.BITS len) × (used + trailing ≤ length out.old) }
+    ensures { out.new ≡ flipped_over W.BITS bytes.now o len out.old }
 {
+    let w = W::BITS;
     let p = w * o;
     let bits = w * len;
-    flip_words(w, bytes, p, bits, out);
-    flip_rest(w, bytes, p, bits, out);
+    flip_words::<W>(bytes, p, bits, out);
+    flip_rest::<W>(bytes, p, bits, out);
     zero_run(out, used, used + TRAILING);
-}
-
-pub fn to_revcomp(w: usize, bytes: &[u8], offset: Chars, len: Chars, out: &mut [u8]) -> Outcome
-    requires width { IsWidth w }
-    requires w_bound { w ≤ 2 }
-    ensures outcome { result ≡ flip_outcome w bytes.now offset.0 len.0 out.old }
-    ensures bytes { out.new ≡ if_done result (flipped_over w bytes.now offset.0 len.0 out.old) out.old }
-{
-    match view_outcome(w, bytes, offset, len) {
-        Outcome::Refused(refusal) => Outcome::Refused(refusal),
-        Outcome::Done => {
-            let n = len.count();
-            // By the view's bits, as it is read: no division by the width.
-            let used = (w * n + 7) / 8;
-            if out.len() < used + TRAILING {
-                return Outcome::Refused(Refusal::NoRoom);
-            }
-            write_flipped(w, bytes, offset.count(), n, used, out);
-            Outcome::Done
-        }
-    }
 }

@@ -34,16 +34,18 @@ returns-then-z-ne0 c = lowest (goal.at.returns-then-z-ne0 c).After-line_feeds-z 
 pub loop-i-preserved : goal.loop-i-preserved
 loop-i-preserved c = (search rules, none (goal.at.loop-i-preserved c).After-line_feeds-z c.if-z-ne0.false)
 
-pub loop-i-2-init : goal.loop-i-2-init
-loop-i-2-init c = c.loop-i.invariant
+pub loop-at-init : goal.loop-at-init
+loop-at-init c = c.loop-i.invariant.1
 
-pub returns-then-part-i-eq10 : goal.returns-then-part-i-eq10
-returns-then-part-i-eq10 c =
-    line_end-is c.args.part.now c.loop-i-2.i record { inside = search rules; before = c.loop-i-2.invariant.1; found = λ l. c.if-part-i-eq10.true }
+pub returns-then-part-at-eq10 : goal.returns-then-part-at-eq10
+returns-then-part-at-eq10 c =
+    line_end-is c.args.part.now c.loop-at.at record { inside = search rules; before = c.loop-at.invariant; found = λ l. c.if-part-at-eq10.true }
 
-pub loop-i-2-preserved : goal.loop-i-2-preserved
-loop-i-2-preserved c = (search rules, below_more _ _ c.loop-i-2.invariant.1 c.if-part-i-eq10.false)
+pub loop-at-preserved : goal.loop-at-preserved
+loop-at-preserved c = below_more _ _ c.loop-at.invariant c.if-part-at-eq10.false
 
 pub returns : goal.returns
 returns c =
-    line_end-is c.args.part.now c.loop-i-2.i record { inside = search rules; before = c.loop-i-2.invariant.1; found = λ l. absurd (omega arith) }
+    let part = c.args.part.now in
+    line_end-is part (length part)
+    record { inside = search rules; before = λ k h. c.loop-at.invariant k (omega arith); found = λ l. absurd (omega arith) }

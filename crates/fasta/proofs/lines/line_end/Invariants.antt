@@ -11,8 +11,5 @@ invariant-loop-i l = Passed l.part l.i
 abbrev pub decreases-loop-i : goal.decreases-loop-i
 decreases-loop-i l = length l.part - l.i
 
-abbrev pub invariant-loop-i-2 : goal.invariant-loop-i-2
-invariant-loop-i-2 l = Passed l.part l.i
-
-abbrev pub decreases-loop-i-2 : goal.decreases-loop-i-2
-decreases-loop-i-2 l = length l.part - l.i
+abbrev pub invariant-loop-at : goal.invariant-loop-at
+invariant-loop-at l = (k : ℕ) → k < l.at → get_or l.part k 0 ≡ 10 → ⊥

@@ -1,36 +1,31 @@
 -- The header, then the record. Assumes nothing.
-use mathlib.Core.Option.{some}
-use mathlib.Core.Path.{◌≡◌, sym, ap, ◌∙◌}
-use Rattle.twobit.specs.Inner.{Places, header_says, parts_say}
+use Rattle.std.specs.Result.{result_ok}
+use mathlib.Core.Path.{sym, ap, ◌∙◌}
+use Rattle.twobit.specs.Answers.{info_says}
+use Rattle.twobit.specs.Inner.{places, header_says, parts_say}
 use Rattle.twobit.proofs.EntryLaws.{Headed, header_some}
-use Rattle.twobit.proofs.RecordLaws.{record_found}
+use Rattle.twobit.proofs.PickLaws.{refuses}
 use Rattle.twobit.proofs.ReadyLaws.{info_header, info_record, info_done}
-use Rattle.twobit.proofs.reading.record_info.Goals.{In-Is, In-Is-record_at}
+use Rattle.twobit.proofs.reading.record_info.Goals.{In_ok-header}
 use Rattle.twobit.proofs.reading.record_info.Goals as goal
 
-headed : (c : In-Is) → Headed c.args.file.now c.in-Is.big c.in-Is.count
-headed c =
-    header_some c.args.file.now c.in-Is.big c.in-Is.count (sym c.header_of.ensures ∙ ap header_says c.in-Is.is)
+headed : (c : In_ok-header) → Headed c.args.file.now c.in_ok-header.header.big c.in_ok-header.header.count
+headed c = header_some _ _ _ (sym c.header_of.ensures ∙ ap header_says (c.ok_or.ensures.ok_part ∙ ap result_ok c.in_ok-header.was))
 
--- the record that was found
-abbrev places : In-Is-record_at → Places
-places c = (c.in-Is-record_at.size, (c.in-Is-record_at.blocks, (c.in-Is-record_at.masks, (c.in-Is-record_at.masks_at, c.in-Is-record_at.dna))))
-
-found : (c : In-Is-record_at) → let a = c.args in record_found c.in-Is.big a.file.now a.offset ≡ some (places c)
-found c = sym c.record_at.ensures ∙ ap parts_say c.in-Is-record_at.is
-
-pub returns-in-Bad : goal.returns-in-Bad
-returns-in-Bad c =
+pub returns-in_err-header : goal.returns-in_err-header
+returns-in_err-header c =
     let a = c.args in
-    info_header a.file.now a.offset (sym c.header_of.ensures ∙ ap header_says c.in-Bad.is)
+    let p = refuses _ _ _ _ (sym c.in_err-header.was ∙ c.ok_or.ensures.value) c.from_residual.ensures.1 in
+    ap info_says p.1 ∙ info_header a.file.now a.offset (sym c.header_of.ensures ∙ ap header_says p.0)
 
-pub returns-in-Bad-record_at : goal.returns-in-Bad-record_at
-returns-in-Bad-record_at c =
+pub returns-in_err-parts : goal.returns-in_err-parts
+returns-in_err-parts c =
     let a = c.args in
-    info_record a.file.now a.offset c.in-Is.big c.in-Is.count (headed (goal.at.returns-in-Bad-record_at c).In-Is) (sym c.record_at.ensures ∙ ap parts_say c.in-Bad-record_at.is)
+    let p = refuses _ _ _ _ (sym c.in_err-parts.was ∙ c.ok_or-2.ensures.value) c.from_residual-in_err-parts.ensures.1 in
+    ap info_says p.1 ∙ info_record a.file.now a.offset _ _ (headed (goal.at.returns-in_err-parts c).In_ok-header) (sym c.record_at.ensures ∙ ap parts_say p.0)
 
-pub returns-in-Is-record_at : goal.returns-in-Is-record_at
-returns-in-Is-record_at c =
+pub returns : goal.returns
+returns c =
     let a = c.args in
-    info_done a.file.now a.offset c.in-Is.big c.in-Is.count (headed (goal.at.returns-in-Is-record_at c).In-Is) (places (goal.at.returns-in-Is-record_at c).In-Is-record_at)
-    (found (goal.at.returns-in-Is-record_at c).In-Is-record_at) c.new.result.0 c.new.ensures
+    info_done a.file.now a.offset _ _ (headed (goal.at.returns c).In_ok-header) (places c.in_ok-parts.parts)
+    (sym c.record_at.ensures ∙ ap parts_say (c.ok_or-2.ensures.ok_part ∙ ap result_ok c.in_ok-parts.was)) c.new.result.0 c.new.ensures

@@ -5,7 +5,7 @@ use Rattle.codes.proofs.WidthLaws.{per_pos}
 use Rattle.codes.proofs.inner.counts.byte_of.Goals as goal
 
 pub nonzero_div-k : goal.nonzero_div-k
-nonzero_div-k c = subst (λ (x : ℕ). 0 < x) (sym c.eighth-c.ensures) (per_pos c.requires)
+nonzero_div-k g c = subst (λ (x : ℕ). 0 < x) (sym c.eighth-c.ensures) (per_pos g.W.Width.divides)
 
 pub returns : goal.returns
-returns c = c.new.ensures ∙ ap₂ (λ (k p : ℕ). k / p) c.count-k.ensures c.eighth-c.ensures
+returns g c = c.new.ensures ∙ ap₂ (λ (k p : ℕ). k / p) c.count-k.ensures c.eighth-c.ensures

@@ -6,7 +6,7 @@ use Rattle.codes.proofs.WidthLaws.{width_pow}
 use Rattle.codes.proofs.inner.counts.over_width.Goals as goal
 
 pub overflow_shr-result : goal.overflow_shr-result
-overflow_shr-result c = omega (arith, c.requires.small)
+overflow_shr-result g c = omega (arith, c.BITS.ensures, g.W.Width.divides.small)
 
 pub returns : goal.returns
-returns c = ap (λ (x : ℕ). c.args.n / x) (width_pow c.requires)
+returns g c = rw (c.BITS.ensures) (ap (λ (x : ℕ). c.args.n / x) (width_pow g.W.Width.divides))

@@ -3,4 +3,4 @@ use mathlib.Core.Path.{◌∙◌}
 use Rattle.codes.proofs.inner.counts.per_byte.Goals as goal
 
 pub returns : goal.returns
-returns c = c.new.ensures ∙ c.eighth.ensures
+returns g c = c.new.ensures ∙ c.eighth.ensures

@@ -4,7 +4,7 @@ use Rattle.codes.proofs.WidthLaws.{by_width}
 use Rattle.codes.proofs.inner.counts.power.Goals as goal
 
 pub overflow_sub-result : goal.overflow_sub-result
-overflow_sub-result c = omega (arith, c.requires.small)
+overflow_sub-result g c = omega (arith, c.BITS.ensures, g.W.Width.divides.small)
 
 pub returns : goal.returns
-returns c = (by_width c.requires (λ e. rw e) (λ e. rw e) (λ e. rw e), omega arith)
+returns g c = (by_width g.W.Width.divides (λ e. rw (c.BITS.ensures, e)) (λ e. rw (c.BITS.ensures, e)) (λ e. rw (c.BITS.ensures, e)), omega arith)

@@ -8,9 +8,9 @@ use Rattle.codes.proofs.WidthLaws.{width_pos}
 use Rattle.codes.proofs.inner.flips.flip_low.Goals as goal
 
 pub overflow_shr-result : goal.overflow_shr-result
-overflow_shr-result c = omega (arith, mul-pos (width_pos c.requires.width) c.requires.w_bound.1)
+overflow_shr-result g c = rw (c.BITS.ensures) (omega (arith, mul-pos (width_pos g.W.Width.divides) c.requires.0))
 
 pub returns : goal.returns
-returns c =
+returns g c =
     let a = c.args in
-    ap (λ (y : ℕ). y / 2 ^ (64 - a.w * a.n)) c.flip_word.ensures ∙ flip-shr c.requires.width 8 a.n a.x c.requires.w_bound.2
+    rw (c.BITS.ensures) (ap (λ (y : ℕ). y / 2 ^ (64 - g.W.Width.BITS * a.n)) c.flip_word.ensures ∙ flip-shr g.W.Width.divides 8 a.n a.x c.requires.1)

@@ -8,11 +8,11 @@ use Rattle.codes.proofs.WidthLaws.{width_pos}
 use Rattle.codes.proofs.inner.flips.flip_low_pair.Goals as goal
 
 pub shr_pair-requires : goal.shr_pair-requires
-shr_pair-requires c = omega (arith, mul-pos (width_pos c.requires.width) c.requires.w_bound.1)
+shr_pair-requires g c = rw (c.BITS.ensures) (omega (arith, mul-pos (width_pos g.W.Width.divides) c.requires.0))
 
 pub returns : goal.returns
-returns c =
+returns g c =
     let a = c.args in
-    c.shr_pair.ensures
-    ∙ ap₂ (λ (p q : ℕ). (p * 2 ^ 64 + q) / 2 ^ (128 - a.w * a.n)) c.flip_word-2.ensures c.flip_word.ensures
-    ∙ flip-shr_pair c.requires.width a.n a.low a.high c.ranges.low.fits c.requires.w_bound.2
+    (rw (c.BITS.ensures) at c.shr_pair.ensures)
+    ∙ ap₂ (λ (p q : ℕ). (p * 2 ^ 64 + q) / 2 ^ (128 - g.W.Width.BITS * a.n)) c.flip_word-2.ensures c.flip_word.ensures
+    ∙ flip-shr_pair g.W.Width.divides a.n a.low a.high c.ranges.low.fits c.requires.1

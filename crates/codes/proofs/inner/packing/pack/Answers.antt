@@ -1,42 +1,44 @@
-use mathlib.Core.Path.{◌≡◌, sym, ap, ◌∙◌}
-use mathlib.Core.List.{List, map}
-use Prim.Native.Nat.{ℕ}
-use native.Mathlib.Omega.{arith}
-use lib.ListN.{drop}
-use lib.Seq.{drop-length}
+use Rattle.std.proofs.Common.{List, [], ◌∷◌, ◌++◌, ◌≡◌, ◌<◌, ◌+◌, ◌*◌, ◌^◌, length, ℕ, sym, ap, refl, ◌∙◌, arith}
+use mathlib.Core.List.{append-nil, append_assoc}
+use lib.ListN.{length-append}
 use Rattle.codes.specs.Codes.{lossy}
 use Rattle.codes.specs.Words.{word}
 use Rattle.codes.proofs.CodeLaws.{lossy-lt}
-use Rattle.codes.proofs.Turns.{Packed, pack-turn}
-use Rattle.codes.proofs.inner.packing.pack.Goals.{In-loop-i}
+use Rattle.codes.proofs.WordLaws.{word_fits}
+use Rattle.codes.proofs.inner.packing.pack.Goals.{In-Some}
 use Rattle.codes.proofs.inner.packing.pack.Goals as goal
 
-step : (c : In-loop-i) → Packed 2 lossy 32 c.args.letters.now c.loop-i.i c.loop-i.out
-step c = pack-turn 2 lossy lossy-lt 32 _ _ _ (omega arith) c.loop-i.invariant.0 c.requires c.loop-i.invariant.1
+-- the letters with the next one before those that were taken
+split : (c : In-Some) → c.args.letters.now ≡ c.next.new.self.iter.rest.now ++ c.in-Some.letter.now ∷ c.loop-letter.invariant.0
+split c =
+    let done = c.loop-letter.invariant.0 in
+    c.loop-letter.invariant.1 ∙ ap (λ (l : List ℕ). l ++ done) c.in-Some.ensures.steps ∙ append_assoc c.next.new.self.iter.rest.now (c.in-Some.letter.now ∷ []) done
 
-pub loop-i-init : goal.loop-i-init
+-- there is room for one more letter
+room : (c : In-Some) → c.loop-letter.out * 4 + lossy c.in-Some.letter.now < 2 ^ 64
 unfolding word
-loop-i-init c = (omega arith, sym (ap (λ (l : List ℕ). word 2 (map lossy l)) (drop-length c.args.letters.now)))
+room c =
+    let l = c.in-Some.letter.now ∷ c.loop-letter.invariant.0 in
+    rw c.loop-letter.invariant.2 (word_fits 2 lossy lossy-lt 32 l (omega (arith, c.requires, ap length (split c), length-append c.next.new.self.iter.rest.now l)))
 
-pub overflow_sub-i : goal.overflow_sub-i
-overflow_sub-i c = omega arith
+pub loop-letter-init : goal.loop-letter-init
+unfolding word
+loop-letter-init c = (
+  [],
+  rw (c.into_iter-letter-iterator.ensures.into_iter_gives, c.rev-letter-items.ensures.source, c.iter.ensures.rest) (sym (append-nil c.args.letters.now)),
+  refl,
+)
 
 pub overflow_mul-out : goal.overflow_mul-out
-overflow_mul-out c = omega (arith, (step c).room)
-
-pub bounds-letters-i : goal.bounds-letters-i
-bounds-letters-i c = omega arith
+overflow_mul-out c = omega (arith, room c)
 
 pub overflow_add-out : goal.overflow_add-out
-overflow_add-out c = omega (arith, (step (goal.at.overflow_add-out c).In-loop-i).room)
+overflow_add-out c = rw c.wide.ensures (record { fits = room (goal.at.overflow_add-out c).In-Some })
 
-pub loop-i-smaller : goal.loop-i-smaller
-loop-i-smaller c = omega arith
-
-pub loop-i-preserved : goal.loop-i-preserved
-loop-i-preserved c = (omega arith, rw c.wide.ensures (step (goal.at.loop-i-preserved c).In-loop-i).out_is)
-
-pub returns : goal.returns
-returns c =
-    let e : c.loop-i.i ≡ 0 = omega arith in
-    c.loop-i.invariant.1 ∙ ap (λ (k : ℕ). word 2 (map lossy (drop k c.args.letters.now))) e
+pub loop-letter-preserved : goal.loop-letter-preserved
+unfolding word
+loop-letter-preserved c = (
+  c.in-Some.letter.now ∷ c.loop-letter.invariant.0,
+  split (goal.at.loop-letter-preserved c).In-Some,
+  rw (c.wide.ensures, c.loop-letter.invariant.2) refl,
+)

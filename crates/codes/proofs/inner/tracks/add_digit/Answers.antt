@@ -8,16 +8,16 @@ use Rattle.codes.proofs.WidthLaws.{shift_fits, shift_lt}
 use Rattle.codes.proofs.inner.tracks.add_digit.Goals as goal
 
 pub overflow_mul-result : goal.overflow_mul-result
-overflow_mul-result c = omega (arith, shift_lt c.requires.width c.args.k c.requires.k_bound)
+overflow_mul-result g c = rw c.BITS.ensures (omega (arith, shift_lt g.W.Width.divides c.args.k c.requires.k_bound))
 
 pub overflow_cast-result : goal.overflow_cast-result
-overflow_cast-result c = omega (arith, shift_lt c.requires.width c.args.k c.requires.k_bound)
+overflow_cast-result g c = rw c.BITS.ensures (omega (arith, shift_lt g.W.Width.divides c.args.k c.requires.k_bound))
 
 pub overflow_shl-result : goal.overflow_shl-result
-overflow_shl-result c = shift_lt c.requires.width c.args.k c.requires.k_bound
+overflow_shl-result g c = rw c.BITS.ensures (shift_lt g.W.Width.divides c.args.k c.requires.k_bound)
 
 pub returns : goal.returns
-returns c =
+returns g c =
     let a = c.args in
-    ap (bit_or a.low) (shl_exact a.w (a.w * a.k) 8 c.requires.low_bound.1 (omega (arith, shift_fits c.requires.width a.k c.requires.k_bound)))
-    ∙ or_shifted_r a.code (a.w * a.k) a.low c.requires.low_bound.0
+    rw c.BITS.ensures (ap (bit_or a.low) (shl_exact g.W.Width.BITS (g.W.Width.BITS * a.k) 8 c.requires.low_bound.1 (omega (arith, shift_fits g.W.Width.divides a.k c.requires.k_bound)))
+    ∙ or_shifted_r a.code (g.W.Width.BITS * a.k) a.low c.requires.low_bound.0)

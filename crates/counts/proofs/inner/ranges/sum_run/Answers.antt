@@ -1,43 +1,42 @@
-use mathlib.Core.Path.{◌≡◌, sym, ap, ap₂, ◌∙◌}
-use Prim.Native.Nat.{ℕ, ◌+◌}
+use mathlib.Core.Path.{◌≡◌, sym, ap₂, ◌∙◌}
+use Prim.Native.Nat.{ℕ, ◌+◌, ◌-◌, ◌*◌, ◌≤◌}
 use native.Mathlib.Nat.{le_refl}
 use native.Mathlib.Omega.{arith}
 use lib.Seq.{slice}
 use Rattle.fields.specs.Flags.{sum}
 use Rattle.counts.proofs.SumLaws.{sum-parts, sum-none}
+use Rattle.counts.proofs.inner.ranges.sum_run.Goals.{After-sum_many}
 use Rattle.counts.proofs.inner.ranges.sum_run.Goals as goal
 
 pub loop-b-init : goal.loop-b-init
-loop-b-init c = let a = c.args in (omega arith, omega arith, sym (sum-none a.entries.now a.from a.from (le_refl a.from)), omega arith)
+loop-b-init c = let a = c.args in (omega arith, sym (sum-none a.entries.now a.from a.from (le_refl a.from)), omega arith)
 
-pub overflow_add-b : goal.overflow_add-b
-overflow_add-b c = omega arith
-
-pub sum_many-requires : goal.sum_many-requires
-sum_many-requires c = omega arith
-
-pub overflow_cast-total : goal.overflow_cast-total
-overflow_cast-total c = omega arith
-
-pub overflow_add-total : goal.overflow_add-total
-overflow_add-total c = omega (arith, c.loop-b.invariant.3, c.sum_many.ensures.1, c.smaller-next.ensures)
-
-pub loop-b-smaller : goal.loop-b-smaller
-loop-b-smaller c = omega arith
+-- the entries of one turn more
+turn : (c : After-sum_many)
+    → let a = c.args in
+    let total = c.loop-b.total + c.sum_many.result in
+    (total ≡ sum (slice a.from c.smaller.result a.entries.now)) × (total ≤ 65535 * (c.smaller.result - a.from))
+turn c =
+    let a = c.args in
+    let n = c.smaller.ensures in (
+      ap₂ (λ (x y : ℕ). x + y) c.loop-b.invariant.1 c.sum_many.ensures.0
+          ∙ sum-parts a.entries.now a.from c.loop-b.b c.smaller.result (omega arith) (omega (arith, n)) (omega (arith, n)),
+      omega (arith, n, c.loop-b.invariant.2, c.sum_many.ensures.1),
+    )
 
 pub loop-b-preserved : goal.loop-b-preserved
 loop-b-preserved c =
-    let a = c.args in
-    let n = c.smaller-next.ensures in (
-      omega arith,
-      omega arith,
-      ap₂ (λ (x y : ℕ). x + y) c.loop-b.invariant.2 c.sum_many.ensures.0
-          ∙ sum-parts a.entries.now a.from c.loop-b.b c.smaller-next.result (omega arith) (omega arith) (omega arith),
-      omega (arith, c.loop-b.invariant.3, c.sum_many.ensures.1),
-    )
+    let n : c.smaller.result ≡ c.loop-b.b + 65536 = omega (arith, c.smaller.ensures) in
+    let t = rw n at (turn (goal.at.loop-b-preserved c).After-sum_many) in
+    (omega arith, t.0, t.1)
 
 pub returns : goal.returns
 returns c =
-    let a = c.args in
-    let all : c.loop-b.b ≡ a.to = omega arith in
-    (c.loop-b.invariant.2 ∙ ap (λ (x : ℕ). sum (slice a.from x a.entries.now)) all, omega (arith, c.loop-b.invariant.3))
+    let all : c.loop-b.b ≡ c.args.to = omega arith in
+    (rw all at c.loop-b.invariant.1, rw all at c.loop-b.invariant.2)
+
+-- the last turn
+pub returns-2 : goal.returns-2
+returns-2 c =
+    let n : c.smaller.result ≡ c.args.to = omega (arith, c.smaller.ensures) in
+    rw n at (turn (goal.at.returns-2 c).After-sum_many)

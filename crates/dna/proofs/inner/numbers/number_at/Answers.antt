@@ -19,7 +19,7 @@ pub loop-j-init : goal.loop-j-init
 unfolding word
 loop-j-init c =
     let a = c.args in
-    (omega arith, sym (ap (word 8) (ap (λ (n : ℕ). drop n (part a.big a.k a.file.now a.at)) (sym (long (goal.at.loop-j-init c).Start)) ∙ drop-length (part a.big a.k a.file.now a.at))))
+    sym (ap (word 8) (ap (λ (n : ℕ). drop n (part a.big a.k a.file.now a.at)) (sym (long (goal.at.loop-j-init c).Start)) ∙ drop-length (part a.big a.k a.file.now a.at)))
 
 -- one turn: the bytes from j - 1 on, and their number is a machine word's
 module _ (c : In-loop-j) where
@@ -28,35 +28,29 @@ module _ (c : In-loop-j) where
 
   turn : c.loop-j.value * 256 + get_or l (c.loop-j.j - 1) 0 ≡ word 8 (drop (c.loop-j.j - 1) l)
   turn =
-      ap (λ (x : ℕ). x * 256 + get_or l (c.loop-j.j - 1) 0) c.loop-j.invariant.1
-      ∙ number_turn l c.loop-j.j (omega arith) (omega (arith, c.loop-j.invariant.0, long (goal.at.In-loop-j c).Start))
+      ap (λ (x : ℕ). x * 256 + get_or l (c.loop-j.j - 1) 0) c.loop-j.invariant
+      ∙ number_turn l c.loop-j.j (omega arith) (omega (arith, long (goal.at.In-loop-j c).Start))
 
   room : word 8 (drop (c.loop-j.j - 1) l) < 2 ^ (8 * 8)
   room =
       number_small l (Below-part c.args.big c.args.k c.args.file.now c.args.at (λ i. (c.type_inv.file i).fits))
-      (c.loop-j.j - 1) 8 (omega (arith, long (goal.at.In-loop-j c).Start, c.requires.0, c.loop-j.invariant.0))
-
-pub overflow_sub-j : goal.overflow_sub-j
-overflow_sub-j c = omega arith
+      (c.loop-j.j - 1) 8 (omega (arith, long (goal.at.In-loop-j c).Start, c.requires.0))
 
 pub overflow_mul-value : goal.overflow_mul-value
 overflow_mul-value c = omega (arith, turn c, room c)
 
 pub byte_of-requires : goal.byte_of-requires
-byte_of-requires c = (omega (arith, c.loop-j.invariant.0), c.requires.1)
+byte_of-requires c = (omega arith, c.requires.1)
 
 pub overflow_add-value : goal.overflow_add-value
 overflow_add-value c = omega (arith, c.byte_of.ensures, turn (goal.at.overflow_add-value c).In-loop-j, room (goal.at.overflow_add-value c).In-loop-j)
 
-pub loop-j-smaller : goal.loop-j-smaller
-loop-j-smaller c = omega arith
-
 pub loop-j-preserved : goal.loop-j-preserved
-loop-j-preserved c = (omega (arith, c.loop-j.invariant.0), ap (λ (x : ℕ). c.loop-j.value * 256 + x) c.byte_of.ensures ∙ turn (goal.at.loop-j-preserved c).In-loop-j)
+loop-j-preserved c = ap (λ (x : ℕ). c.loop-j.value * 256 + x) c.byte_of.ensures ∙ turn (goal.at.loop-j-preserved c).In-loop-j
 
 pub returns : goal.returns
 unfolding number_at
 returns c =
     let a = c.args in
     let e : c.loop-j.j ≡ 0 = omega arith in
-    c.loop-j.invariant.1 ∙ ap (λ (n : ℕ). word 8 (drop n (part a.big a.k a.file.now a.at))) e
+    c.loop-j.invariant ∙ ap (λ (n : ℕ). word 8 (drop n (part a.big a.k a.file.now a.at))) e

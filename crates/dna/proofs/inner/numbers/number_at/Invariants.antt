@@ -2,7 +2,7 @@
 use mathlib.Core.Bool.{Bool}
 use mathlib.Core.List.{List}
 use mathlib.Core.Path.{◌≡◌}
-use Prim.Native.Nat.{ℕ, ◌≤◌}
+use Prim.Native.Nat.{ℕ}
 use lib.ListN.{take, drop}
 use Rattle.codes.specs.Words.{word}
 use Rattle.dna.specs.Numbers.{ordered}
@@ -13,7 +13,4 @@ abbrev pub part : Bool → ℕ → List ℕ → ℕ → List ℕ
 part big k file at = ordered big (take k (drop at file))
 
 abbrev pub invariant-loop-j : goal.invariant-loop-j
-invariant-loop-j l = (l.j ≤ l.k) × (l.value ≡ word 8 (drop l.j (part l.big l.k l.file l.at)))
-
-abbrev pub decreases-loop-j : goal.decreases-loop-j
-decreases-loop-j l = l.j
+invariant-loop-j l = l.value ≡ word 8 (drop l.j (part l.big l.k l.file l.at))

@@ -7,15 +7,15 @@ use Rattle.codes.proofs.OutcomeLaws.{gives_done, gives_refused}
 use Rattle.fields.proofs.inner.parts.normal_part.Goals as goal
 
 pub accepted_part-requires : goal.accepted_part-requires
-accepted_part-requires c = record { width = c.requires; len_value = sym c.view_outcome.ensures ∙ c.in-Done.is }
+accepted_part-requires g c = sym c.view_outcome.ensures ∙ c.in-Ok.is
 
-pub returns-in-Refused : goal.returns-in-Refused
-returns-in-Refused c =
+pub returns-in-Err : goal.returns-in-Err
+returns-in-Err g c =
     let a = c.args in
-    gives_refused (first (view_tests a.w (length a.bytes.now) a.offset.0 a.len.0)) _ _ (front (span_of a.bytes)) (sym c.view_outcome.ensures ∙ c.in-Refused.is)
+    gives_refused (first (view_tests g.W.Width.BITS (length a.bytes.now) a.offset.0 a.len.0)) _ _ (front (span_of a.bytes)) (sym c.view_outcome.ensures ∙ c.in-Err.is)
 
-pub returns-in-Done : goal.returns-in-Done
-returns-in-Done c =
+pub returns-in-Ok : goal.returns-in-Ok
+returns-in-Ok g c =
     let a = c.args in
-    let tests = view_tests a.w (length a.bytes.now) a.offset.0 a.len.0 in
-    c.accepted_part.ensures ∙ gives_done (first tests) _ (front (span_of a.bytes)) (sym c.view_outcome.ensures ∙ c.in-Done.is)
+    let tests = view_tests g.W.Width.BITS (length a.bytes.now) a.offset.0 a.len.0 in
+    c.accepted_part.ensures ∙ gives_done (first tests) _ (front (span_of a.bytes)) (sym c.view_outcome.ensures ∙ c.in-Ok.is)

@@ -39,7 +39,7 @@ passed_all : {s : List ℕ} {first n end p count : ℕ} → Passed s first n end
 passed_all {s} {first} {n} {end} {p} h l = omega (arith, ap length (runs_over s (p - first) p end l), h.all)
 
 pub run_end-p-requires : goal.run_end-p-requires
-run_end-p-requires c = (omega arith, c.requires.1, omega arith)
+run_end-p-requires c = (omega arith, c.requires.1)
 
 pub loop-p-init : goal.loop-p-init
 loop-p-init c =
@@ -47,13 +47,13 @@ loop-p-init c =
     passed_none a.bytes.now a.first a.n c.run_end-p.result c.run_end-p.ensures
 
 pub run_end-q-requires : goal.run_end-q-requires
-run_end-q-requires c = (c.loop-p.invariant.within, c.requires.1, omega arith)
+run_end-q-requires c = (c.loop-p.invariant.within, c.requires.1)
 
 pub run_end-p-requires-in-loop-p : goal.run_end-p-requires-in-loop-p
 run_end-p-requires-in-loop-p c =
     let a = c.args in
     let l = same_within a.bytes.now 1 c.loop-p.p (a.first + a.n) c.loop-p.invariant.within in
-    (subst (λ (q : ℕ). q ≤ a.first + a.n) (sym c.run_end-q.ensures) l, c.requires.1, omega arith)
+    (subst (λ (q : ℕ). q ≤ a.first + a.n) (sym c.run_end-q.ensures) l, c.requires.1)
 
 -- the run that a turn passes
 turn : (c : After-run_end-p-in-loop-p)

@@ -1,22 +1,23 @@
 -- The view's word, where it is not refused. Assumes nothing.
-use mathlib.Core.Path.{sym, ◌∙◌}
+use mathlib.Core.Path.{sym}
 use lib.ListN.{length}
-use Rattle.codes.proofs.OutcomeLaws.{answer_done, answer_refused}
+use Rattle.codes.proofs.OutcomeLaws.{answer_done, answer_passed}
 use Rattle.fields.specs.Fields.{as_u64}
 use Rattle.fields.proofs.LoadLaws.{Wordy, word-open}
-use Rattle.fields.proofs.inner.words.as_u64.Goals.{In-Done}
+use Rattle.fields.proofs.inner.words.as_u64.Given.{Over}
+use Rattle.fields.proofs.inner.words.as_u64.Goals.{In_ok-word_outcome}
 use Rattle.fields.proofs.inner.words.as_u64.Goals as goal
 
-room : (c : In-Done) → let a = c.args in Wordy a.w (length a.bytes.now) a.offset.0 a.len.0 0 64
-room c = word-open _ _ _ _ 0 64 (sym c.word_outcome.ensures ∙ c.in-Done.is)
+room : (g : Over) (c : In_ok-word_outcome g) → let a = c.args in Wordy g.W.Width.BITS (length a.bytes.now) a.offset.0 a.len.0 0 64
+room g c = word-open _ _ _ _ 0 64 (sym c.in_ok-word_outcome.ensures)
 
 pub view_word-requires : goal.view_word-requires
-view_word-requires c = record { width = c.requires; len_value = (room c).view; len_bound = (room c).fits }
+view_word-requires g c = record { len_value = (room g c).view; len_bound = (room g c).fits }
 
-pub returns-in-Refused : goal.returns-in-Refused
+pub returns-in_err-word_outcome : goal.returns-in_err-word_outcome
 unfolding as_u64
-returns-in-Refused c = answer_refused _ _ _ 0 (sym c.word_outcome.ensures ∙ c.in-Refused.is)
+returns-in_err-word_outcome g c = answer_passed _ _ _ _ _ _ c.in_err-word_outcome.ensures c.from_residual.ensures.1
 
-pub returns-in-Done : goal.returns-in-Done
+pub returns : goal.returns
 unfolding as_u64
-returns-in-Done c = answer_done _ _ _ 0 (sym c.word_outcome.ensures ∙ c.in-Done.is) c.view_word.ensures
+returns g c = answer_done _ _ _ 0 (sym c.in_ok-word_outcome.ensures) c.view_word.ensures

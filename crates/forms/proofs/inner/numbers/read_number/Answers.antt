@@ -11,28 +11,16 @@ pub loop-i-init : goal.loop-i-init
 unfolding spelling
 loop-i-init c = (omega arith, refl)
 
-pub overflow_sub-i : goal.overflow_sub-i
-overflow_sub-i c = omega arith
-
-pub bounds-bytes-i : goal.bounds-bytes-i
-bounds-bytes-i c = omega arith
-
 pub lead-read-requires : goal.lead-read-requires
 lead-read-requires c =
     let l = c.loop-i in
     subst (Fits 8) (sym l.invariant.1) (spelling-small l.i _ (Below-of 8 c.args.bytes.now (λ j. (c.type_inv.bytes j).fits)))
-
-pub loop-i-smaller-then-i-bytes : goal.loop-i-smaller-then-i-bytes
-loop-i-smaller-then-i-bytes c = omega arith
 
 pub loop-i-preserved-then-i-bytes : goal.loop-i-preserved-then-i-bytes
 loop-i-preserved-then-i-bytes c =
     let l = c.loop-i in
     let bytes = c.args.bytes.now in
     (omega arith, c.lead-read.ensures ∙ ap (led (get_or bytes (l.i - 1) 0)) l.invariant.1 ∙ sym (spelling-step _ l.i (omega arith) l.invariant.0 (omega arith)))
-
-pub loop-i-smaller : goal.loop-i-smaller
-loop-i-smaller c = omega arith
 
 pub loop-i-preserved : goal.loop-i-preserved
 loop-i-preserved c =

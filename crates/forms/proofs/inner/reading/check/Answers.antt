@@ -3,8 +3,7 @@ use mathlib.Core.Bool.{false}
 use mathlib.Core.List.{List}
 use mathlib.Core.Path.{◌≡◌, refl, sym, ap, ◌∙◌}
 use lib.ListN.{length}
-use Rattle.codes.specs.Refusals.{Test, answer, too_long}
-use Rattle.codes.specs.declared.refusals.Outcome.{Outcome}
+use Rattle.codes.specs.Refusals.{Test, answer, too_long, Outcome}
 use Rattle.codes.specs.declared.refusals.Refusal.TheVariants.{TooLong}
 use Rattle.forms.specs.Reading.{read_tests, head_of, body_of, form_length}
 use Rattle.codes.proofs.TestLaws.{answer_at, first_past}

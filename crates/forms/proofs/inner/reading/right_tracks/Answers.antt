@@ -13,10 +13,10 @@ use Rattle.forms.proofs.inner.reading.right_tracks.Goals as goal
 
 -- the two counts, and the whole length
 bases : (c : After-count-2) → c.count.result ≡ up 2 c.args.n
-bases c = c.count.ensures ∙ c.bytes_for.ensures ∙ ap (up 2) c.new.ensures
+bases c = c.count.ensures ∙ c.bytes_as.ensures ∙ ap (up 2) c.new.ensures
 
 flags : (c : After-count-2) → c.count-2.result ≡ up 1 c.args.n
-flags c = c.count-2.ensures ∙ c.bytes_for-2.ensures ∙ ap (up 1) c.new-2.ensures
+flags c = c.count-2.ensures ∙ c.bytes_as-2.ensures ∙ ap (up 1) c.new-2.ensures
 
 pub returns-then-form-end : goal.returns-then-form-end
 returns-then-form-end c =

@@ -5,6 +5,6 @@ use Rattle.codes.proofs.Turns.{lent-on}
 use Rattle.forms.proofs.inner.tracks.write_track.Goals as goal
 
 pub returns : goal.returns
-returns c =
+returns g c =
     let a = c.args in
-    lent-on a.at (up a.w a.len) (packed a.w (chars a.w a.bytes.now a.offset a.len)) a.out.now c.pack_view.new.out c.pack_view.ensures
+    lent-on a.at (up g.W.Width.BITS a.len) (packed g.W.Width.BITS (chars g.W.Width.BITS a.bytes.now a.offset a.len)) a.out.now c.pack_view.new.out c.pack_view.ensures

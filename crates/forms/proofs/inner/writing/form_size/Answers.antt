@@ -3,7 +3,8 @@ use mathlib.Core.Path.{◌≡◌, ap, ◌∙◌}
 use Prim.Native.Nat.{ℕ}
 use native.Mathlib.Omega.{arith}
 use lib.ListN.{length}
-use Rattle.codes.proofs.WidthLaws.{width_1, width_2, up_le}
+use Rattle.codes.specs.Widths.{width_1, width_2}
+use Rattle.codes.proofs.WidthLaws.{up_le}
 use Rattle.forms.specs.Numbers.{spelt}
 use Rattle.forms.proofs.NumberLaws.{length-spelt}
 use Rattle.forms.proofs.inner.writing.form_size.Goals as goal

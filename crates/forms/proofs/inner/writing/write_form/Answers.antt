@@ -1,4 +1,5 @@
 -- The head, then the base bytes behind it, then the flag bytes. Assumes nothing.
+use Rattle.std.specs.Prelude.{Ok}
 use mathlib.Core.List.{◌++◌}
 use mathlib.Core.Path.{◌≡◌, sym, ap, ◌∙◌, subst}
 use Prim.Native.Nat.{ℕ, suc, ◌+◌, ◌≤◌}
@@ -7,8 +8,8 @@ use lib.ListN.{length, drop}
 use borrow.Author.Rules.{rules}
 use Rattle.codes.specs.Codes.{up, chars}
 use Rattle.codes.specs.Refusals.{first, view_tests}
-use Rattle.codes.specs.declared.refusals.Outcome.TheVariants.{Done}
-use Rattle.codes.proofs.WidthLaws.{width_1, width_2, up_le}
+use Rattle.codes.specs.Widths.{width_2}
+use Rattle.codes.proofs.WidthLaws.{up_le}
 use Rattle.forms.specs.Forms.{stored, form_size}
 use Rattle.forms.specs.Numbers.{spelt}
 use Rattle.forms.proofs.FormLaws.{form_written}
@@ -35,7 +36,7 @@ module _ (c : After-count) where
   base_at_lem = let e = c.spelt_size-base_at.ensures in omega arith
 
   flag_at_lem : 1 + size + c.count.result ≡ 1 + size + up 2 n
-  flag_at_lem = ap (λ (x : ℕ). 1 + size + x) (c.count.ensures ∙ c.bytes_as_bases.ensures ∙ ap (up 2) (sym n_is))
+  flag_at_lem = ap (λ (x : ℕ). 1 + size + x) (c.count.ensures ∙ c.bytes_as.ensures ∙ ap (up 2) (sym n_is))
 
   -- there is room for the form
   room : form_size n ≤ length c.args.out.now
@@ -52,8 +53,7 @@ write_track-requires c =
     let a = c.args in
     let l : length c.write_head.new.out ≡ length a.out.now = search rules in
     record {
-      width = width_2;
-      len_value = subst (λ (x : ℕ). first (view_tests 2 (length a.bases.now) a.ao x) ≡ Done) (sym (n_is (goal.at.write_track-requires c).After-count))
+      len_value = subst (λ (x : ℕ). first (view_tests 2 (length a.bases.now) a.ao x) ≡ Ok tt) (sym (n_is (goal.at.write_track-requires c).After-count))
           c.requires.len_value;
       len_in_bounds = omega (arith, room (goal.at.write_track-requires c).After-count, base_at_lem (goal.at.write_track-requires c).After-count);
     }
@@ -63,8 +63,7 @@ write_track-requires-2 c =
     let a = c.args in
     let l : length c.write_track.new.out ≡ length a.out.now = search rules in
     record {
-      width = width_1;
-      len_value = subst (λ (x : ℕ). first (view_tests 1 (length a.flags.now) a.bo x) ≡ Done) (sym (n_is (goal.at.write_track-requires-2 c).After-count))
+      len_value = subst (λ (x : ℕ). first (view_tests 1 (length a.flags.now) a.bo x) ≡ Ok tt) (sym (n_is (goal.at.write_track-requires-2 c).After-count))
           c.requires.len_value_2;
       len_in_bounds = omega (
         arith,

@@ -7,7 +7,6 @@ use native.Mathlib.Omega.{arith}
 use lib.ListN.{length}
 use borrow.Author.Tests.{ltb-false, lt-ltb, le-ltb}
 use Rattle.codes.specs.Refusals.{Test, first, too_long, bad_view, no_room}
-use Rattle.codes.proofs.WidthLaws.{width_1, width_2}
 use Rattle.forms.specs.Forms.{write_tests, bad_tracks, form_size}
 use Rattle.codes.proofs.TestLaws.{Stops, refused_at, first_at}
 use Rattle.forms.proofs.OutcomeLaws.{tracks_differ, tracks_long, tracks_right}
@@ -31,7 +30,7 @@ pub returns-then-too_long-2 : goal.returns-then-too_long-2
 returns-then-too_long-2 c = first_at 1 (tests (goal.at.returns-then-too_long-2 c).Start) (passed_1 (goal.at.returns-then-too_long-2 c).Else-too_long, sym c.too_long-2.ensures ∙ c.if-too_long-2.true)
 
 pub bad_view-requires : goal.bad_view-requires
-bad_view-requires c = record { width = width_2; n_bound = ltb-false _ _ (passed_1 (goal.at.bad_view-requires c).Else-too_long) }
+bad_view-requires c = ltb-false _ _ (passed_1 (goal.at.bad_view-requires c).Else-too_long)
 
 pub returns-then-bad_view : goal.returns-then-bad_view
 returns-then-bad_view c =
@@ -41,7 +40,7 @@ returns-then-bad_view c =
     )
 
 pub bad_view-requires-2 : goal.bad_view-requires-2
-bad_view-requires-2 c = record { width = width_1; n_bound = ltb-false _ _ (passed_2 (goal.at.bad_view-requires-2 c).Else-too_long-2) }
+bad_view-requires-2 c = ltb-false _ _ (passed_2 (goal.at.bad_view-requires-2 c).Else-too_long-2)
 
 passed_3 : (c : Else-bad_view) → (let a = c.args in (bad_view 2 (length a.bases.now) a.ao.0 a.al.0).0 ≡ false)
 passed_3 c = sym c.bad_view.ensures ∙ c.if-bad_view.false

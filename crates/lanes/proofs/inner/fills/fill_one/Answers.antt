@@ -3,29 +3,26 @@ use mathlib.Core.Path.{◌∙◌}
 use native.Mathlib.Omega.{arith}
 use lib.ListN.{length}
 use Rattle.lanes.proofs.LaneLaws.{Open, stream_open, Sized, stream_sizes}
+use Rattle.lanes.proofs.inner.fills.fill_one.Given.{Over}
 use Rattle.lanes.proofs.inner.fills.fill_one.Goals.{Start}
 use Rattle.lanes.proofs.inner.fills.fill_one.Goals as goal
 
-module _ (c : Start) where
-  opened : Open c.args.w c.args.bytes.now c.args.offset.0 c.args.len.0 c.args.context.0 c.args.factor 0 0
-  opened = stream_open c.args.w c.args.bytes.now c.args.offset.0 c.args.len.0 c.args.context.0 c.args.factor 0 0 c.requires.factor_value
+module _ (g : Over) (c : Start g) where
+  opened : Open g.W.Width.BITS c.args.bytes.now c.args.offset.0 c.args.len.0 c.args.context.0 c.args.factor 0 0
+  opened = stream_open g.W.Width.BITS c.args.bytes.now c.args.offset.0 c.args.len.0 c.args.context.0 c.args.factor 0 0 c.requires.factor_value
 
-  sized : Sized c.args.w c.args.len.0 c.args.context.0 c.args.factor
-  sized = stream_sizes c.requires.width (length c.args.bytes.now) c.args.offset.0 c.args.len.0 c.args.context.0 c.args.factor opened.view opened.shape
+  sized : Sized g.W.Width.BITS c.args.len.0 c.args.context.0 c.args.factor
+  sized = stream_sizes g.W.Width.divides (length c.args.bytes.now) c.args.offset.0 c.args.len.0 c.args.context.0 c.args.factor opened.view opened.shape
 
 pub plan_of-p-requires : goal.plan_of-p-requires
-plan_of-p-requires c = record { width = c.requires.width; factor_value = (opened (goal.at.plan_of-p-requires c).Start).shape }
+plan_of-p-requires g c = (opened g (goal.at.plan_of-p-requires g c).Start).shape
 
 pub fill_lanes-requires : goal.fill_lanes-requires
-fill_lanes-requires c =
-    let z = sized (goal.at.fill_lanes-requires c).Start in
-    let p = c.plan_of-p.ensures in record {
-      width = c.requires.width;
-      len_value = rw (c.count.ensures, c.count-2.ensures) (opened (goal.at.fill_lanes-requires c).Start).view;
-      n_bound = (omega arith, omega arith, omega (arith, c.requires.factor_in_bounds));
-    }
+fill_lanes-requires g c =
+    let z = sized g (goal.at.fill_lanes-requires g c).Start in
+    let p = c.plan_of-p.ensures in record { len_value = rw (c.count.ensures, c.count-2.ensures) (opened g (goal.at.fill_lanes-requires g c).Start).view; n_bound = (omega arith, omega arith, omega (arith, c.requires.factor_in_bounds)) }
 
 pub returns : goal.returns
-returns c =
+returns g c =
     let p = c.plan_of-p.ensures in
     c.fill_lanes.ensures ∙ rw (c.count.ensures, c.count-2.ensures, c.count-3.ensures, p.lane, p.steps)

@@ -1,11 +1,8 @@
 -- The invariant: the steps below t are written. Assumes nothing.
-use Prim.Native.Nat.{◌+◌, ◌-◌, ◌*◌, ◌≤◌}
+use Prim.Native.Nat.{◌+◌, ◌*◌}
 use Rattle.codes.specs.Made.{Made}
 use Rattle.lanes.specs.Turns.{turned}
 use Rattle.lanes.proofs.inner.turns.write_half.Given as goal
 
 abbrev pub invariant-loop-t : goal.invariant-loop-t
-invariant-loop-t l = (l.t ≤ l.count) × Made (turned l.w l.part l.e) l.e (l.e + 8 * l.t) l.initial.out l.out
-
-abbrev pub decreases-loop-t : goal.decreases-loop-t
-decreases-loop-t l = l.count - l.t
+invariant-loop-t g l = Made (turned g.W.Width.BITS l.part l.e) l.e (l.e + 8 * l.t) l.initial.out l.out

@@ -9,13 +9,14 @@ use Rattle.codes.specs.Codes.{IsWidth}
 use Rattle.codes.proofs.MadeLaws.{made_as, made-join, made-to}
 use Rattle.codes.proofs.WidthLaws.{below_or, whole}
 use Rattle.lanes.proofs.TurnLaws.{turned-part}
+use Rattle.lanes.proofs.inner.turns.write_turn.Given.{Over}
 use Rattle.lanes.proofs.inner.turns.write_turn.Goals.{After-smaller-first}
 use Rattle.lanes.proofs.inner.turns.write_turn.Goals as goal
 
 -- the steps of the first half, and those behind it
-module _ (c : After-smaller-first) where
+module _ (g : Over) (c : After-smaller-first g) where
   abbrev w : ℕ
-  w = c.args.w
+  w = g.W.Width.BITS
 
   abbrev count : ℕ
   count = c.args.count
@@ -24,7 +25,7 @@ module _ (c : After-smaller-first) where
   first = c.smaller-first.result
 
   W : IsWidth w
-  W = c.requires.width
+  W = g.W.Width.divides
 
   first_is : first ≡ min count (32 / w)
   first_is = c.smaller-first.ensures ∙ ap (min count) c.over_width.ensures
@@ -47,7 +48,7 @@ module _ (c : After-smaller-first) where
       below_or first count
       (λ h.
       let e : first + (count - first) ≡ count = omega arith in
-      omega (arith, more h, sym (mul-add w first (count - first)) ∙ ap (λ (k : ℕ). w * k) e, c.requires.count_bound.0))
+      omega (arith, more h, sym (mul-add w first (count - first)) ∙ ap (λ (k : ℕ). w * k) e, c.requires.0))
       (λ h. let e : count - first ≡ 0 = omega arith in omega (arith, ap (λ (k : ℕ). w * k) e ∙ mul-zero w))
 
 -- the halves of words, by what they are divided by
@@ -56,33 +57,26 @@ parts_at : (words part : List ℕ) (m n : ℕ) → ((l : ℕ) → l < 8 → get_
 parts_at words part m n is e l h = is l h ∙ ap (λ (x : ℕ). get_or words l 0 / x % 2 ^ 32) e
 
 pub write_half-requires : goal.write_half-requires
-write_half-requires c = record {
-  width = W (goal.at.write_half-requires c).After-smaller-first;
-  count_bound = (fits (goal.at.write_half-requires c).After-smaller-first, omega (arith, few (goal.at.write_half-requires c).After-smaller-first, c.requires.count_bound.1));
-}
+write_half-requires g c = (fits g (goal.at.write_half-requires g c).After-smaller-first, omega (arith, few g (goal.at.write_half-requires g c).After-smaller-first, c.requires.1))
 
 pub write_half-requires-2 : goal.write_half-requires-2
-write_half-requires-2 c =
-    record {
-      width = W (goal.at.write_half-requires-2 c).After-smaller-first;
-      count_bound = (
-        rest (goal.at.write_half-requires-2 c).After-smaller-first,
-        omega (arith, few (goal.at.write_half-requires-2 c).After-smaller-first, c.write_half.ensures.long, c.requires.count_bound.1),
-      );
-    }
+write_half-requires-2 g c = (
+  rest g (goal.at.write_half-requires-2 g c).After-smaller-first,
+  omega (arith, few g (goal.at.write_half-requires-2 g c).After-smaller-first, c.write_half.ensures.long, c.requires.1),
+)
 
 pub returns : goal.returns
-returns c =
+returns g c =
     let a = c.args in
-    let low = turned-part (W (goal.at.returns c).After-smaller-first) a.words c.halves.result 0 (first (goal.at.returns c).After-smaller-first) a.e 0 a.e
-    (fits (goal.at.returns c).After-smaller-first) (sym (mul-zero (w (goal.at.returns c).After-smaller-first))) (omega arith) c.halves.ensures in
+    let low = turned-part (W g (goal.at.returns g c).After-smaller-first) a.words c.halves.result 0 (first g (goal.at.returns g c).After-smaller-first) a.e 0 a.e
+    (fits g (goal.at.returns g c).After-smaller-first) (sym (mul-zero (w g (goal.at.returns g c).After-smaller-first))) (omega arith) c.halves.ensures in
     made-to
     (made-join (made_as c.write_half.ensures low) c.write_half-2.ensures (omega arith) (omega arith)
     (λ q f l _.
-    turned-part (W (goal.at.returns c).After-smaller-first) a.words c.halves-2.result (first (goal.at.returns c).After-smaller-first)
-    (count (goal.at.returns c).After-smaller-first - first (goal.at.returns c).After-smaller-first) a.e
-    (w (goal.at.returns c).After-smaller-first * first (goal.at.returns c).After-smaller-first) (a.e + 8 * first (goal.at.returns c).After-smaller-first)
-    (rest (goal.at.returns c).After-smaller-first) refl refl
-    (parts_at a.words c.halves-2.result _ (2 ^ (w (goal.at.returns c).After-smaller-first * first (goal.at.returns c).After-smaller-first)) c.halves-2.ensures
-    (omega (arith, ap (λ (s : ℕ). 2 ^ s) (more (goal.at.returns c).After-smaller-first (omega arith))))) q f l))
-    (omega (arith, few (goal.at.returns c).After-smaller-first))
+    turned-part (W g (goal.at.returns g c).After-smaller-first) a.words c.halves-2.result (first g (goal.at.returns g c).After-smaller-first)
+    (count g (goal.at.returns g c).After-smaller-first - first g (goal.at.returns g c).After-smaller-first) a.e
+    (w g (goal.at.returns g c).After-smaller-first * first g (goal.at.returns g c).After-smaller-first) (a.e + 8 * first g (goal.at.returns g c).After-smaller-first)
+    (rest g (goal.at.returns g c).After-smaller-first) refl refl
+    (parts_at a.words c.halves-2.result _ (2 ^ (w g (goal.at.returns g c).After-smaller-first * first g (goal.at.returns g c).After-smaller-first)) c.halves-2.ensures
+    (omega (arith, ap (λ (s : ℕ). 2 ^ s) (more g (goal.at.returns g c).After-smaller-first (omega arith))))) q f l))
+    (omega (arith, few g (goal.at.returns g c).After-smaller-first))

@@ -8,15 +8,15 @@ use Rattle.runs.proofs.JoinLaws.{bits_fit}
 use Rattle.runs.proofs.inner.edges.first_letters.Goals as goal
 
 pub whole_byte-requires : goal.whole_byte-requires
-whole_byte-requires c = record { width = c.requires.width; w_bound = (c.requires.w_bound.0, omega (arith, c.requires.w_bound.1)) }
+whole_byte-requires g c = omega (arith, c.requires)
 
 pub overflow_mul-result : goal.overflow_mul-result
-overflow_mul-result c = omega (arith, bits_fit c.requires.width c.args.k c.requires.w_bound.2)
+overflow_mul-result g c = rw c.BITS.ensures (omega (arith, bits_fit g.W.Width.divides c.args.k c.requires.1))
 
 pub overflow_shl-result : goal.overflow_shl-result
-overflow_shl-result c = omega (arith, bits_fit c.requires.width c.args.k c.requires.w_bound.2)
+overflow_shl-result g c = rw c.BITS.ensures (omega (arith, bits_fit g.W.Width.divides c.args.k c.requires.1))
 
 pub returns : goal.returns
-returns c =
+returns g c =
     let a = c.args in
-    mod_low (c.whole_byte.result * 2 ^ (a.w * a.k)) 8 64 (lit≤ tt) ∙ ap (λ (x : ℕ). x * 2 ^ (a.w * a.k) % 2 ^ 8) c.whole_byte.ensures
+    rw c.BITS.ensures (mod_low (c.whole_byte.result * 2 ^ (g.W.Width.BITS * a.k)) 8 64 (lit≤ tt) ∙ ap (λ (x : ℕ). x * 2 ^ (g.W.Width.BITS * a.k) % 2 ^ 8) c.whole_byte.ensures)

@@ -1,6 +1,5 @@
--- The invariant: the bytes up to j are copied, and byte i of the view is next. Assumes nothing.
+-- The invariant: the bytes up to j are copied. Assumes nothing.
 use mathlib.Core.List.{List}
-use mathlib.Core.Path.{◌≡◌}
 use Prim.Native.Nat.{ℕ, ◌+◌, ◌-◌, ◌≤◌}
 use lib.ListN.{get_or}
 use Rattle.codes.specs.Made.{Made}
@@ -11,7 +10,7 @@ abbrev pub over : List ℕ → ℕ → ℕ → ℕ → ℕ
 over view lead from j = get_or view (lead + (j - from)) 0
 
 abbrev pub invariant-loop-j : goal.invariant-loop-j
-invariant-loop-j l = (l.from ≤ l.j) × (l.j ≤ l.to) × (l.i ≡ l.lead + (l.j - l.from)) × Made (over l.view l.lead l.from) l.from l.j l.initial.buffer l.buffer
+invariant-loop-j l = (l.j ≤ l.to - 8) × Made (over l.view l.lead l.from) l.from l.j l.initial.buffer l.buffer
 
 abbrev pub decreases-loop-j : goal.decreases-loop-j
 decreases-loop-j l = l.to - l.j

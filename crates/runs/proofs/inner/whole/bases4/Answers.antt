@@ -1,7 +1,7 @@
 -- Two halves of 2 letters. Assumes nothing.
 use Prim.Native.Nat.{◌<◌}
 use native.Mathlib.Omega.{arith}
-use Rattle.codes.proofs.WidthLaws.{width_2}
+use Rattle.codes.specs.Widths.{width_2}
 use Rattle.runs.proofs.WholeLaws.{letters_two, letters_lt}
 use Rattle.runs.proofs.inner.whole.bases4.Goals as goal
 

@@ -1,13 +1,8 @@
--- The invariant: the bytes up to j are made, and letter i is the first of byte j. Assumes nothing.
-use mathlib.Core.Path.{◌≡◌}
-use Prim.Native.Nat.{◌+◌, ◌-◌, ◌*◌, ◌≤◌}
+-- The invariant: the first i bytes are made. Assumes nothing.
+use Prim.Native.Nat.{◌+◌, ◌*◌}
 use Rattle.codes.specs.Made.{Made}
 use Rattle.runs.specs.Bytes.{letters_word}
 use Rattle.runs.proofs.inner.whole.bases_run.Given as goal
 
-abbrev pub invariant-loop-j : goal.invariant-loop-j
-invariant-loop-j l =
-    (l.from ≤ l.j) × (l.j ≤ l.to) × (l.i ≡ l.first + (l.j - l.from) * 4) × Made (λ b. letters_word 2 4 l.letters (l.first + (b - l.from) * 4)) l.from l.j l.initial.buffer l.buffer
-
-abbrev pub decreases-loop-j : goal.decreases-loop-j
-decreases-loop-j l = l.to - l.j
+abbrev pub invariant-loop-i : goal.invariant-loop-i
+invariant-loop-i l = Made (λ b. letters_word 2 4 l.letters (l.first + b * 4)) 0 l.i l.initial.byte-items l.byte-items

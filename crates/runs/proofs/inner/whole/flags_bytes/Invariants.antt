@@ -1,16 +1,11 @@
--- The invariant: the bytes up to j are made, and `rest` is the word of all flags without them. Assumes nothing.
+-- The invariant: the bytes up to the index are made, and `rest` is the word of all flags without them. Assumes nothing.
 use mathlib.Core.Path.{◌≡◌}
-use Prim.Native.Nat.{◌+◌, ◌-◌, ◌*◌, ◌/◌, ◌^◌, ◌≤◌}
+use Prim.Native.Nat.{◌+◌, ◌-◌, ◌*◌, ◌/◌, ◌^◌}
 use Rattle.codes.specs.Made.{Made}
 use Rattle.runs.specs.Bytes.{letters_word}
 use Rattle.runs.proofs.inner.whole.flags_bytes.Given as goal
 
-abbrev pub invariant-loop-j : goal.invariant-loop-j
-invariant-loop-j l =
-    (l.from ≤ l.j)
-    × (l.j ≤ l.to)
-    × (l.rest ≡ letters_word 1 (8 * (l.to - l.from)) l.letters l.first / 2 ^ (8 * (l.j - l.from)))
-    × Made (λ b. letters_word 1 8 l.letters (l.first + (b - l.from) * 8)) l.from l.j l.initial.buffer l.buffer
-
-abbrev pub decreases-loop-j : goal.decreases-loop-j
-decreases-loop-j l = l.to - l.j
+abbrev pub invariant-loop-byte : goal.invariant-loop-byte
+invariant-loop-byte l =
+    (l.rest ≡ letters_word 1 (8 * (l.to - l.from)) l.letters l.first / 2 ^ (8 * l.byte-index))
+    × Made (λ b. letters_word 1 8 l.letters (l.first + b * 8)) 0 l.byte-index l.initial.byte-items l.byte-items

@@ -1,12 +1,9 @@
 -- The invariant: the first k flags are made. Assumes nothing.
-use Prim.Native.Nat.{◌+◌, ◌-◌, ◌≤◌}
+use Prim.Native.Nat.{◌+◌}
 use lib.ListN.{get_or}
 use Rattle.codes.specs.Codes.{code}
 use Rattle.codes.specs.Made.{Made}
 use Rattle.runs.proofs.inner.whole.spread.Given as goal
 
 abbrev pub invariant-loop-k : goal.invariant-loop-k
-invariant-loop-k l = (l.k ≤ 64) × Made (λ m. code 1 (get_or l.letters (l.i + m) 0)) 0 l.k l.initial.out l.out
-
-abbrev pub decreases-loop-k : goal.decreases-loop-k
-decreases-loop-k l = 64 - l.k
+invariant-loop-k l = Made (λ m. code 1 (get_or l.letters (l.i + m) 0)) 0 l.k l.initial.flag-items l.flag-items

@@ -13,19 +13,20 @@ use Rattle.runs.specs.Bytes.{anew}
 use Rattle.runs.proofs.FreshLaws.{made-three, made-whole}
 use Rattle.runs.proofs.LetterLaws.{made-first, made-last, first_next, first_behind}
 use Rattle.runs.proofs.RoomLaws.{div-up, up-part, up-full}
+use Rattle.runs.proofs.inner.writes.fill_many.Given.{Over}
 use Rattle.runs.proofs.inner.writes.fill_many.Goals.{After-count, After-count-r, After-whole_run, Start}
 use Rattle.runs.proofs.inner.writes.fill_many.Goals as goal
 
 -- what is known once the bytes are
-module _ (c : After-count-r) where
-  abbrev s : Start
-  s = (goal.at.After-count-r c).Start
+module _ (g : Over) (c : After-count-r g) where
+  abbrev s : Start g
+  s = (goal.at.After-count-r g c).Start
 
   abbrev w : ℕ
-  w = s.args.w
+  w = g.W.Width.BITS
 
   abbrev W : IsWidth w
-  W = s.requires.width
+  W = g.W.Width.divides
 
   abbrev end : ℕ
   end = s.args.at + length s.args.letters.now
@@ -37,7 +38,7 @@ module _ (c : After-count-r) where
   to = c.count-to.result
 
   eight : 8 ≤ length s.args.letters.now
-  eight = s.requires.w_bound.1
+  eight = s.requires.letters_len_bound
 
   bytes : (j : ℕ) → get_or s.args.buffer.now j 0 < 256
   bytes j = (c.slice_known-1.given j).fits
@@ -90,107 +91,95 @@ module _ (c : After-count-r) where
   stop_full h = subst (λ (x : ℕ). s.args.stop ≤ x * per w) (up-full W end (sym r_is ∙ h) ∙ sym to_is) s.requires.letters_bound.1
 
 -- the first byte's run
-module _ (c : After-whole_run) where
-  abbrev o : After-count-r
-  o = (goal.at.After-whole_run c).After-count-r
+module _ (g : Over) (c : After-whole_run g) where
+  abbrev o : After-count-r g
+  o = (goal.at.After-whole_run g c).After-count-r
 
-  first_run : Made (anew (w o) (s o).args.buffer.now (s o).args.at (map (code (w o)) (s o).args.letters.now) (s o).args.stop) (b o) (b o + 1)
-      (s o).args.buffer.now c.join_above.new.buffer
+  first_run : Made (anew (w g o) (s g o).args.buffer.now (s g o).args.at (map (code (w g o)) (s g o).args.letters.now) (s g o).args.stop) (b g o) (b g o + 1)
+      (s g o).args.buffer.now c.join_above.new.buffer
   first_run =
-      made-first (W o) (s o).args.at (s o).args.letters.now (s o).args.stop (eight o) (k_is o) c.first_letters.ensures (b_is o)
-      (omega (arith, suc-mul (b o) (per (w o)), next_to o, to_end o, stops o)) (λ i. (c.slice_known-2-1.given i).fits) c.join_above.ensures
+      made-first (W g o) (s g o).args.at (s g o).args.letters.now (s g o).args.stop (eight g o) (k_is g o) c.first_letters.ensures (b_is g o)
+      (omega (arith, suc-mul (b g o) (per (w g o)), next_to g o, to_end g o, stops g o)) (λ i. (c.slice_known-2-1.given i).fits) c.join_above.ensures
 
   abbrev d : List ℕ
   d = c.join_above.new.buffer
 
-  whole_run : Made (anew (w o) d (s o).args.at (map (code (w o)) (s o).args.letters.now) (s o).args.stop) (b o + 1) (to o) d c.whole_run.new.buffer
-  whole_run = made-whole (w o) (s o).args.letters.now (behind o) (to_end o) c.whole_run.ensures (omega (arith, to_end o, stops o))
+  whole_run : Made (anew (w g o) d (s g o).args.at (map (code (w g o)) (s g o).args.letters.now) (s g o).args.stop) (b g o + 1) (to g o) d c.whole_run.new.buffer
+  whole_run = made-whole (w g o) (s g o).args.letters.now (behind g o) (to_end g o) c.whole_run.ensures (omega (arith, to_end g o, stops g o))
 
-  long : length c.whole_run.new.buffer ≡ length (s o).args.buffer.now
+  long : length c.whole_run.new.buffer ≡ length (s g o).args.buffer.now
   long = c.whole_run.ensures.long ∙ c.join_above.ensures.long
 
 -- where the last byte starts
-starts_is : (c : After-count) → c.count.result ≡ to (o (goal.at.After-count c).After-whole_run) * per (w (o (goal.at.After-count c).After-whole_run))
-starts_is c =
-    c.count.ensures ∙ c.chars_in.ensures ∙ ap (λ (x : ℕ). x * per (w (o (goal.at.After-count c).After-whole_run))) c.new.ensures
+starts_is : (g : Over) (c : After-count g) → c.count.result ≡ to g (o g (goal.at.After-count g c).After-whole_run) * per (w g (o g (goal.at.After-count g c).After-whole_run))
+starts_is g c =
+    c.count.ensures ∙ c.chars_in.ensures ∙ ap (λ (x : ℕ). x * per (w g (o g (goal.at.After-count g c).After-whole_run))) c.new.ensures
 
 pub first_letters-requires : goal.first_letters-requires
-first_letters-requires c = record {
-  width = W (goal.at.first_letters-requires c).After-count-r;
-  w_bound = (
-    (s (goal.at.first_letters-requires c).After-count-r).requires.w_bound.0,
-    omega (arith, eight (goal.at.first_letters-requires c).After-count-r, per-le (W (goal.at.first_letters-requires c).After-count-r)),
-    few (goal.at.first_letters-requires c).After-count-r,
-  );
-}
+first_letters-requires g c = (
+  omega (arith, eight g (goal.at.first_letters-requires g c).After-count-r, per-le (W g (goal.at.first_letters-requires g c).After-count-r)),
+  few g (goal.at.first_letters-requires g c).After-count-r,
+)
 
 pub join_above-requires : goal.join_above-requires
-join_above-requires c = record {
-  width = W (goal.at.join_above-requires c).After-count-r;
-  b_in_bounds = (
-    omega (
-      arith,
-      next (goal.at.join_above-requires c).After-count-r,
-      to_last (goal.at.join_above-requires c).After-count-r,
-      room (goal.at.join_above-requires c).After-count-r,
-    ),
-    few (goal.at.join_above-requires c).After-count-r,
-  );
-}
+join_above-requires g c = (
+  omega (
+    arith,
+    next g (goal.at.join_above-requires g c).After-count-r,
+    to_last g (goal.at.join_above-requires g c).After-count-r,
+    room g (goal.at.join_above-requires g c).After-count-r,
+  ),
+  few g (goal.at.join_above-requires g c).After-count-r,
+)
 
 pub overflow_add-b : goal.overflow_add-b
-overflow_add-b c =
-    omega (arith, next (goal.at.overflow_add-b c).After-count-r)
+overflow_add-b g c =
+    omega (arith, next g (goal.at.overflow_add-b g c).After-count-r)
 
 pub whole_run-requires : goal.whole_run-requires
-whole_run-requires c =
+whole_run-requires g c =
     let e = c.join_above.ensures.long in record {
-      width = W (goal.at.whole_run-requires c).After-count-r;
-      w_bound = (s (goal.at.whole_run-requires c).After-count-r).requires.w_bound.0;
       from_le_to = (
-        next (goal.at.whole_run-requires c).After-count-r,
-        omega (arith, to_last (goal.at.whole_run-requires c).After-count-r, room (goal.at.whole_run-requires c).After-count-r),
-        omega (arith, (s (goal.at.whole_run-requires c).After-count-r).requires.buffer_len_bound),
+        next g (goal.at.whole_run-requires g c).After-count-r,
+        omega (arith, to_last g (goal.at.whole_run-requires g c).After-count-r, room g (goal.at.whole_run-requires g c).After-count-r),
+        omega (arith, (s g (goal.at.whole_run-requires g c).After-count-r).requires.buffer_len_bound),
       );
-      at_bound = (behind (goal.at.whole_run-requires c).After-count-r, to_end (goal.at.whole_run-requires c).After-count-r);
+      at_bound = (behind g (goal.at.whole_run-requires g c).After-count-r, to_end g (goal.at.whole_run-requires g c).After-count-r);
     }
 
 pub chars_in-requires : goal.chars_in-requires
-chars_in-requires c =
-    let k = o (goal.at.chars_in-requires c).After-whole_run in record { width = W k; n_bound = omega (arith, c.new.ensures, to_last k, room k, (s k).requires.buffer_len_bound) }
+chars_in-requires g c =
+    let k = o g (goal.at.chars_in-requires g c).After-whole_run in omega (arith, c.new.ensures, to_last g k, room g k, (s g k).requires.buffer_len_bound)
 
 pub overflow_sub-rest : goal.overflow_sub-rest
-overflow_sub-rest c = let k = o (goal.at.overflow_sub-rest c).After-whole_run in omega (arith, starts_is c, to_end k, stops k)
+overflow_sub-rest g c = let k = o g (goal.at.overflow_sub-rest g c).After-whole_run in omega (arith, starts_is g c, to_end g k, stops g k)
 
 pub last_letters-requires : goal.last_letters-requires
-last_letters-requires c =
-    let k = o (goal.at.last_letters-requires c).After-whole_run in
-    record { width = W k; w_bound = ((s k).requires.w_bound.0, omega (arith, eight k, per-le (W k)), omega (arith, r_is k, mod-lt (end k) (per_pos (W k)))) }
+last_letters-requires g c =
+    let k = o g (goal.at.last_letters-requires g c).After-whole_run in
+    (omega (arith, eight g k, per-le (W g k)), omega (arith, r_is g k, mod-lt (end g k) (per_pos (W g k))))
 
 pub join_below-requires : goal.join_below-requires
-join_below-requires c =
-    let k = o (goal.at.join_below-requires c).After-whole_run in
-    let some = c.if-r-gt0.true in record {
-      width = W k;
-      b_in_bounds = (
-        omega (arith, last_is k some, room k, long (goal.at.join_below-requires c).After-whole_run),
-        omega (arith, starts_is (goal.at.join_below-requires c).After-count, stop_next k some, suc-mul (to k) (per (w k))),
-      );
-    }
+join_below-requires g c =
+    let k = o g (goal.at.join_below-requires g c).After-whole_run in
+    let some = c.if-r-gt0.true in (
+      omega (arith, last_is g k some, room g k, long g (goal.at.join_below-requires g c).After-whole_run),
+      omega (arith, starts_is g (goal.at.join_below-requires g c).After-count, stop_next g k some, suc-mul (to g k) (per (w g k))),
+    )
 
 pub returns-then-r-gt0 : goal.returns-then-r-gt0
-returns-then-r-gt0 c =
-    let k = o (goal.at.returns-then-r-gt0 c).After-whole_run in
+returns-then-r-gt0 g c =
+    let k = o g (goal.at.returns-then-r-gt0 g c).After-whole_run in
     let some = c.if-r-gt0.true in
     let last =
-    made-last (W k) (s k).args.at (s k).args.letters.now (s k).args.stop (eight k) (r_is k) some
-    c.last_letters.ensures (to_is k) (omega (arith, behind k, next_to k)) (stops k) (ap (λ (x : ℕ). (s k).args.stop - x) (starts_is (goal.at.returns-then-r-gt0 c).After-count))
+    made-last (W g k) (s g k).args.at (s g k).args.letters.now (s g k).args.stop (eight g k) (r_is g k) some
+    c.last_letters.ensures (to_is g k) (omega (arith, behind g k, next_to g k)) (stops g k) (ap (λ (x : ℕ). (s g k).args.stop - x) (starts_is g (goal.at.returns-then-r-gt0 g c).After-count))
     (λ i. (c.slice_known-then-r-gt0-1.given i).fits) c.join_below.ensures in
-    made-three (W k) _ _ _ _ (bytes k) (first_run (goal.at.returns-then-r-gt0 c).After-whole_run) (whole_run (goal.at.returns-then-r-gt0 c).After-whole_run) last (b_is k)
-    (omega arith) (next k) (omega arith) (stop_next k some)
+    made-three (W g k) _ _ _ _ (bytes g k) (first_run g (goal.at.returns-then-r-gt0 g c).After-whole_run) (whole_run g (goal.at.returns-then-r-gt0 g c).After-whole_run) last (b_is g k)
+    (omega arith) (next g k) (omega arith) (stop_next g k some)
 
 pub returns-else-r-gt0 : goal.returns-else-r-gt0
-returns-else-r-gt0 c =
-    let k = o (goal.at.returns-else-r-gt0 c).After-whole_run in
-    made-three (W k) _ _ _ _ (bytes k) (first_run (goal.at.returns-else-r-gt0 c).After-whole_run) (whole_run (goal.at.returns-else-r-gt0 c).After-whole_run)
-    (made_none (le_refl (to k))) (b_is k) (omega arith) (next k) (le_refl (to k)) (stop_full k (omega (arith, c.if-r-gt0.false)))
+returns-else-r-gt0 g c =
+    let k = o g (goal.at.returns-else-r-gt0 g c).After-whole_run in
+    made-three (W g k) _ _ _ _ (bytes g k) (first_run g (goal.at.returns-else-r-gt0 g c).After-whole_run) (whole_run g (goal.at.returns-else-r-gt0 g c).After-whole_run)
+    (made_none (le_refl (to g k))) (b_is g k) (omega arith) (next g k) (le_refl (to g k)) (stop_full g k (omega (arith, c.if-r-gt0.false)))

@@ -7,7 +7,7 @@ use Rattle.codes.proofs.WidthLaws.{ltb-eq}
 use Rattle.stores.proofs.inner.outcomes.no_room.Goals as goal
 
 pub returns : goal.returns
-returns c =
+returns g c =
     let a = c.args in
-    let e : c.count.result ≡ up a.w a.n = c.count.ensures ∙ c.bytes_for.ensures ∙ ap (up a.w) c.new.ensures in
-    ltb-eq (a.size - trailing) c.count.result a.size (up a.w a.n + trailing) (λ l. omega arith) (λ l. omega arith)
+    let e : c.count.result ≡ up g.W.Width.BITS a.n = c.count.ensures ∙ c.bytes_as.ensures ∙ ap (up g.W.Width.BITS) c.new.ensures in
+    ltb-eq (a.size - trailing) c.count.result a.size (up g.W.Width.BITS a.n + trailing) (λ l. omega arith) (λ l. omega arith)

@@ -12,18 +12,7 @@ abbrev file_blocks : Start → ℕ → Run
 file_blocks s = block_at s.args.big s.args.file.now s.args.p
 
 pub loop-i-init : goal.loop-i-init
-loop-i-init c = (omega arith, apart_none (file_blocks (goal.at.loop-i-init c).Start) c.args.n, Between-none 0x2_0000_0000 0 (file_blocks (goal.at.loop-i-init c).Start) c.args.n)
-
-pub overflow_sub-i : goal.overflow_sub-i
-overflow_sub-i c = omega arith
-
-pub block_at-block-requires : goal.block_at-block-requires
-block_at-block-requires c =
-    (c.requires.0, omega (arith, c.loop-i.invariant.0), c.requires.1)
-
-pub clear_of-right-requires : goal.clear_of-right-requires
-clear_of-right-requires c =
-    (c.requires.0, omega (arith, c.loop-i.invariant.0), c.requires.1)
+loop-i-init c = (apart_none (file_blocks (goal.at.loop-i-init c).Start) c.args.n, Between-none 0x2_0000_0000 0 (file_blocks (goal.at.loop-i-init c).Start) c.args.n)
 
 -- how the flag stands before the next turn, where the block has a position
 right_is : (c : Joined-low-block)
@@ -36,14 +25,14 @@ right_is c =
     let v = c.loop-i.invariant in
     let bs = blocks_from f i (n - i) in
     elim c.if-low-block.branch [
-      | then-low-block+then-block-high+then-right w ↦ w.right-is ∙ apart-first f i n t v.0 w.clear_of-right.result (sym w.if-right.true ∙ v.1) w.clear_of-right.ensures
-      | then-low-block+then-block-high+else-right w ↦ w.right-is ∙ (w.if-right.false ∙ apart-fails f i n t v.0 (sym w.if-right.false ∙ v.1))
+      | then-low-block+then-block-high+then-right w ↦ w.right-is ∙ apart-first f i n t (omega arith) w.clear_of-right.result (sym w.if-right.true ∙ v.0) w.clear_of-right.ensures
+      | then-low-block+then-block-high+else-right w ↦ w.right-is ∙ (w.if-right.false ∙ apart-fails f i n t (omega arith) (sym w.if-right.false ∙ v.0))
       | then-low-block+else-block-high w ↦ w.right-is
-          ∙ apart-clear f i n t v.0 c.loop-i.right
-          (clear_above (f (i - 1)) c.loop-i.low c.loop-i.high bs (omega (arith, w.if-block-high.false, c.block_at-block.ensures.0)) v.2) v.1
+          ∙ apart-clear f i n t (omega arith) c.loop-i.right
+          (clear_above (f (i - 1)) c.loop-i.low c.loop-i.high bs (omega (arith, w.if-block-high.false, c.block_at-block.ensures.0)) v.1) v.0
       | else-low-block w ↦ w.right-is
-          ∙ apart-clear f i n t v.0 c.loop-i.right
-          (clear-below (f (i - 1)) c.loop-i.low c.loop-i.high bs (omega (arith, w.if-low-block.false, c.block_at-block.ensures.1)) v.2) v.1
+          ∙ apart-clear f i n t (omega arith) c.loop-i.right
+          (clear-below (f (i - 1)) c.loop-i.low c.loop-i.high bs (omega (arith, w.if-low-block.false, c.block_at-block.ensures.1)) v.1) v.0
     ]
 
 low_is : (c : Joined-block-low) → (c.if-block-low.low ≤ c.loop-i.low) × (c.if-block-low.low ≤ c.block_at-block.result.start)
@@ -53,34 +42,23 @@ low_is c =
       | else-block-low w ↦ (omega (arith, w.low-is), omega (arith, w.if-block-low.false, w.low-is))
     ]
 
-pub loop-i-smaller-then-high-block : goal.loop-i-smaller-then-high-block
-loop-i-smaller-then-high-block c = omega arith
-
 pub loop-i-preserved-then-high-block : goal.loop-i-preserved-then-high-block
 loop-i-preserved-then-high-block c =
     let low = low_is (goal.at.loop-i-preserved-then-high-block c).Joined-block-low in (
-      omega (arith, c.loop-i.invariant.0),
       right_is (goal.at.loop-i-preserved-then-high-block c).Joined-low-block,
-      Between-next (file_blocks (goal.at.loop-i-preserved-then-high-block c).Start) c.loop-i.i c.args.n c.loop-i-test.true c.loop-i.invariant.0 c.loop-i.low c.loop-i.high c.if-block-low.low
+      Between-next (file_blocks (goal.at.loop-i-preserved-then-high-block c).Start) c.loop-i.i c.args.n c.loop-i-test.true (omega arith) c.loop-i.low c.loop-i.high c.if-block-low.low
           c.block_at-block.result.end low.0 (omega (arith, c.if-high-block.true))
-          (λ h. (omega (arith, low.1, c.block_at-block.ensures.0), omega (arith, c.block_at-block.ensures.1))) c.loop-i.invariant.2,
+          (λ h. (omega (arith, low.1, c.block_at-block.ensures.0), omega (arith, c.block_at-block.ensures.1))) c.loop-i.invariant.1,
     )
-
-pub loop-i-smaller-else-high-block : goal.loop-i-smaller-else-high-block
-loop-i-smaller-else-high-block c = omega arith
 
 pub loop-i-preserved-else-high-block : goal.loop-i-preserved-else-high-block
 loop-i-preserved-else-high-block c =
     let low = low_is (goal.at.loop-i-preserved-else-high-block c).Joined-block-low in (
-      omega (arith, c.loop-i.invariant.0),
       right_is (goal.at.loop-i-preserved-else-high-block c).Joined-low-block,
-      Between-next (file_blocks (goal.at.loop-i-preserved-else-high-block c).Start) c.loop-i.i c.args.n c.loop-i-test.true c.loop-i.invariant.0 c.loop-i.low c.loop-i.high c.if-block-low.low
+      Between-next (file_blocks (goal.at.loop-i-preserved-else-high-block c).Start) c.loop-i.i c.args.n c.loop-i-test.true (omega arith) c.loop-i.low c.loop-i.high c.if-block-low.low
           c.loop-i.high low.0 (omega arith)
-          (λ h. (omega (arith, low.1, c.block_at-block.ensures.0), omega (arith, c.if-high-block.false, c.block_at-block.ensures.1))) c.loop-i.invariant.2,
+          (λ h. (omega (arith, low.1, c.block_at-block.ensures.0), omega (arith, c.if-high-block.false, c.block_at-block.ensures.1))) c.loop-i.invariant.1,
     )
-
-pub loop-i-smaller : goal.loop-i-smaller
-loop-i-smaller c = omega arith
 
 pub loop-i-preserved : goal.loop-i-preserved
 loop-i-preserved c =
@@ -89,13 +67,12 @@ loop-i-preserved c =
     let i = c.loop-i.i in
     let t = c.loop-i-test.true in
     let e : (f (i - 1)).size ≡ 0 = omega (arith, c.if-block.false, c.block_at-block.ensures.0, c.block_at-block.ensures.1) in (
-      omega (arith, c.loop-i.invariant.0),
-      apart-clear f i n t c.loop-i.invariant.0 c.loop-i.right (clear-empty (f (i - 1)) (blocks_from f i (n - i)) e) c.loop-i.invariant.1,
-      Between-next f i n t c.loop-i.invariant.0 c.loop-i.low c.loop-i.high c.loop-i.low c.loop-i.high (omega arith) (omega arith)
-          (λ h. let z : ⊥ = omega (arith, e, h) in absurd z) c.loop-i.invariant.2,
+      apart-clear f i n t (omega arith) c.loop-i.right (clear-empty (f (i - 1)) (blocks_from f i (n - i)) e) c.loop-i.invariant.0,
+      Between-next f i n t (omega arith) c.loop-i.low c.loop-i.high c.loop-i.low c.loop-i.high (omega arith) (omega arith)
+          (λ h. let z : ⊥ = omega (arith, e, h) in absurd z) c.loop-i.invariant.1,
     )
 
 pub returns : goal.returns
 returns c =
     let a = c.args in
-    c.loop-i.invariant.1 ∙ ap apart (blocks-all a.big a.file.now a.p a.n c.requires.0 c.loop-i.i c.loop-i-test.false)
+    c.loop-i.invariant.0 ∙ ap apart (blocks-all a.big a.file.now a.p a.n c.requires.0 c.loop-i.i c.loop-i-test.false)

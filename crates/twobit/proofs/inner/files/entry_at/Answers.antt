@@ -8,12 +8,6 @@ returns-then-len-at c =
     let a = c.args in
     entry_cut a.big a.k a.file.now a.at (omega arith)
 
-pub overflow_cast-size : goal.overflow_cast-size
-overflow_cast-size c = record { fits = omega (arith, (c.type_inv.file c.args.at).fits) }
-
-pub overflow_add-size : goal.overflow_add-size
-overflow_add-size c = record { fits = omega (arith, (c.type_inv.file c.args.at).fits, c.requires) }
-
 pub returns-then-len-at-2 : goal.returns-then-len-at-2
 returns-then-len-at-2 c =
     let a = c.args in

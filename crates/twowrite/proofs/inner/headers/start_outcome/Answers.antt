@@ -4,7 +4,7 @@ use mathlib.Core.Path.{◌≡◌, ap}
 use Prim.Native.Nat.{ℕ, suc, ◌+◌, ◌*◌, ◌^◌, ◌≤◌}
 use native.Mathlib.Nat.{mul-le-mul}
 use native.Mathlib.Omega.{arith}
-use borrow.Author.Tests.{lt-ltb, le-ltb, le-leb, lt-leb}
+use borrow.Author.Tests.{le-ltb, lt-leb}
 use Rattle.codes.specs.Refusals.{Test}
 use Rattle.codes.proofs.TestLaws.{first_at}
 use Rattle.twobit.specs.Files.{index_end}
@@ -15,33 +15,12 @@ use Rattle.twowrite.proofs.inner.headers.start_outcome.Goals as goal
 abbrev tests : Start → List Test
 tests s = start_tests s.args.k s.args.n s.args.m s.args.room
 
-pub returns-then-n-gt4294967295 : goal.returns-then-n-gt4294967295
-returns-then-n-gt4294967295 c = first_at 0 (tests (goal.at.returns-then-n-gt4294967295 c).Start) (le-leb (2 ^ 32) c.args.n (omega arith))
-
 -- the index without the names
 small : (c : Else-n-gt4294967295) → (let a = c.args in a.n * suc a.k ≤ 2 ^ 32 * 9)
 small c = let a = c.args in mul-le-mul {n₂ = 2 ^ 32} {m₂ = 9} (omega arith) (omega arith)
 
 same : (n k : ℕ) → n * (k + 1) ≡ n * suc k
 same n k = ap (λ (m : ℕ). n * m) (omega arith)
-
-pub overflow_mul-fixed : goal.overflow_mul-fixed
-overflow_mul-fixed c = let a = c.args in omega (arith, small c, same a.n a.k)
-
-pub overflow_add-fixed-2 : goal.overflow_add-fixed-2
-overflow_add-fixed-2 c = let a = c.args in omega (arith, small c, same a.n a.k)
-
-pub returns-then-room-fixed : goal.returns-then-room-fixed
-returns-then-room-fixed c =
-    let a = c.args in
-    first_at 1 (tests (goal.at.returns-then-room-fixed c).Start)
-    (lt-leb (2 ^ 32) a.n (omega arith), lt-ltb a.room (index_end a.k a.n a.m) (omega (arith, same a.n a.k)))
-
-pub returns-then-room-fixed-2 : goal.returns-then-room-fixed-2
-returns-then-room-fixed-2 c =
-    let a = c.args in
-    first_at 1 (tests (goal.at.returns-then-room-fixed-2 c).Start)
-    (lt-leb (2 ^ 32) a.n (omega arith), lt-ltb a.room (index_end a.k a.n a.m) (omega (arith, same a.n a.k)))
 
 pub returns : goal.returns
 returns c =

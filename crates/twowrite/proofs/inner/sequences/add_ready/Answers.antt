@@ -1,22 +1,23 @@
 -- The tests are the definition's, in its order. Assumes nothing.
+use Rattle.std.specs.Prelude.{Err}
 use mathlib.Core.Bool.{not}
 use mathlib.Core.List.{List}
 use mathlib.Core.Path.{◌≡◌, refl, sym, ap, ap₂, ◌∙◌, subst}
 use Prim.Native.Nat.{ℕ, ◌+◌, ◌*◌, ◌^◌, ◌≤◌, ◌<◌}
 use native.Mathlib.Omega.{arith}
 use lib.ListN.{length, take}
-use borrow.Author.Tests.{ltb-false, lt-ltb, le-ltb, eq-eqb, ne_eqb}
+use borrow.Author.Tests.{ltb-false, lt-ltb, le-ltb, eq-eqb}
 use Rattle.codes.specs.Codes.{up, per, trailing, chars}
 use Rattle.codes.specs.Refusals.{Test, answer, first}
-use Rattle.codes.specs.declared.refusals.Outcome.TheVariants.{Refused}
-use Rattle.codes.specs.declared.refusals.Refusal.TheVariants.{TooLong, BadView, BadRange, NoRoom}
+use Rattle.codes.specs.declared.refusals.Refusal.TheVariants.{NoRoom}
 use Rattle.codes.proofs.OutcomeLaws.{answer_done}
-use Rattle.codes.proofs.WidthLaws.{width_1, width_2, up_le}
+use Rattle.codes.specs.Widths.{width_2}
+use Rattle.codes.proofs.WidthLaws.{up_le}
 use Rattle.fields.specs.Runs.{runs}
 use Rattle.fields.proofs.ViewLaws.{Room}
 use Rattle.codes.proofs.TestLaws.{None, first_past}
 use Rattle.twobit.specs.Files.{record_size}
-use Rattle.twowrite.specs.Writing.{add_tests, writing}
+use Rattle.twowrite.specs.Writing.{add_tests}
 use Rattle.twowrite.proofs.RunLaws.{runs_few, record_size-is}
 use Rattle.twowrite.proofs.StepLaws.{none_next, answer-next}
 use Rattle.twowrite.proofs.inner.sequences.add_ready.Goals.{After-count-5, After-count_runs-count, Else-bad_state, Else-bad_view, Else-bad_view-2, Else-count, Else-far_record, Else-name-gt255, Else-too_long, Else-too_long-2, Start}
@@ -25,13 +26,10 @@ use Rattle.twowrite.proofs.inner.sequences.add_ready.Goals as goal
 abbrev tests : Start → List Test
 tests s =
     let a = s.args in
-    add_tests a.k (writing a.entry a.stop a.place a.left) a.name (length a.bases.now) a.ao.0 a.al.0 a.flags.now a.bo.0 a.bl.0 a.room
+    add_tests a.k a.state a.name (length a.bases.now) a.ao.0 a.al.0 a.flags.now a.bo.0 a.bl.0 a.room
 
 abbrev count : Start → ℕ
 count s = length (runs (chars 1 s.args.flags.now s.args.bo.0 s.args.bl.0))
-
-pub returns-then-too_long : goal.returns-then-too_long
-returns-then-too_long c = answer-next 0 (tests (goal.at.returns-then-too_long c).Start) TooLong (count (goal.at.returns-then-too_long c).Start) 0 tt refl (sym c.too_long.ensures ∙ c.if-too_long.true)
 
 -- the tests so far do not hold
 none_1 : (c : Else-too_long) → None (take 1 (tests (goal.at.Else-too_long c).Start))
@@ -40,29 +38,11 @@ none_1 c = (sym c.too_long.ensures ∙ c.if-too_long.false, tt)
 none_2 : (c : Else-too_long-2) → None (take 2 (tests (goal.at.Else-too_long-2 c).Start))
 none_2 c = none_next 1 (tests (goal.at.Else-too_long-2 c).Start) (none_1 (goal.at.Else-too_long-2 c).Else-too_long) (sym c.too_long-2.ensures ∙ c.if-too_long-2.false, tt)
 
-pub returns-then-too_long-2 : goal.returns-then-too_long-2
-returns-then-too_long-2 c = answer-next 1 (tests (goal.at.returns-then-too_long-2 c).Start) TooLong (count (goal.at.returns-then-too_long-2 c).Start) 0
-    (none_1 (goal.at.returns-then-too_long-2 c).Else-too_long) refl (sym c.too_long-2.ensures ∙ c.if-too_long-2.true)
-
-pub bad_view-requires : goal.bad_view-requires
-bad_view-requires c = record { width = width_2; n_bound = ltb-false _ _ (none_2 c).0 }
-
 none_3 : (c : Else-bad_view) → None (take 3 (tests (goal.at.Else-bad_view c).Start))
 none_3 c = none_next 2 (tests (goal.at.Else-bad_view c).Start) (none_2 (goal.at.Else-bad_view c).Else-too_long-2) (sym c.bad_view.ensures ∙ c.if-bad_view.false, tt)
 
-pub returns-then-bad_view : goal.returns-then-bad_view
-returns-then-bad_view c = answer-next 2 (tests (goal.at.returns-then-bad_view c).Start) BadView (count (goal.at.returns-then-bad_view c).Start) 0
-    (none_2 (goal.at.returns-then-bad_view c).Else-too_long-2) refl (sym c.bad_view.ensures ∙ c.if-bad_view.true)
-
-pub bad_view-requires-2 : goal.bad_view-requires-2
-bad_view-requires-2 c = record { width = width_1; n_bound = ltb-false _ _ (none_3 c).1.0 }
-
 none_4 : (c : Else-bad_view-2) → None (take 4 (tests (goal.at.Else-bad_view-2 c).Start))
 none_4 c = none_next 3 (tests (goal.at.Else-bad_view-2 c).Start) (none_3 (goal.at.Else-bad_view-2 c).Else-bad_view) (sym c.bad_view-2.ensures ∙ c.if-bad_view-2.false, tt)
-
-pub returns-then-bad_view-2 : goal.returns-then-bad_view-2
-returns-then-bad_view-2 c = answer-next 3 (tests (goal.at.returns-then-bad_view-2 c).Start) BadView (count (goal.at.returns-then-bad_view-2 c).Start) 0
-    (none_3 (goal.at.returns-then-bad_view-2 c).Else-bad_view) refl (sym c.bad_view-2.ensures ∙ c.if-bad_view-2.true)
 
 -- both views have the same length
 same : (c : Else-count) → (let a = c.args in a.al.0 ≡ a.bl.0)
@@ -71,31 +51,14 @@ same c = sym c.count.ensures ∙ c.if-count.false ∙ c.count-2.ensures
 none_5 : (c : Else-count) → None (take 5 (tests (goal.at.Else-count c).Start))
 none_5 c = none_next 4 (tests (goal.at.Else-count c).Start) (none_4 (goal.at.Else-count c).Else-bad_view-2) (ap not (eq-eqb _ _ (same c)), tt)
 
-pub returns-then-count : goal.returns-then-count
-returns-then-count c =
-    answer-next 4 (tests (goal.at.returns-then-count c).Start) BadRange (count (goal.at.returns-then-count c).Start) 0 (none_4 (goal.at.returns-then-count c).Else-bad_view-2) refl
-    (ap not (ne_eqb c.args.al.0 c.args.bl.0 (λ e. c.if-count.true (c.count.ensures ∙ e ∙ sym c.count-2.ensures))))
-
 none_6 : (c : Else-name-gt255) → None (take 6 (tests (goal.at.Else-name-gt255 c).Start))
 none_6 c = none_next 5 (tests (goal.at.Else-name-gt255 c).Start) (none_5 (goal.at.Else-name-gt255 c).Else-count) (le-ltb 255 c.args.name (omega arith), tt)
-
-pub returns-then-name-gt255 : goal.returns-then-name-gt255
-returns-then-name-gt255 c = answer-next 5 (tests (goal.at.returns-then-name-gt255 c).Start) BadRange (count (goal.at.returns-then-name-gt255 c).Start) 0
-    (none_5 (goal.at.returns-then-name-gt255 c).Else-count) refl (lt-ltb 255 c.args.name (omega arith))
 
 none_7 : (c : Else-bad_state) → None (take 7 (tests (goal.at.Else-bad_state c).Start))
 none_7 c = none_next 6 (tests (goal.at.Else-bad_state c).Start) (none_6 (goal.at.Else-bad_state c).Else-name-gt255) (sym c.bad_state.ensures ∙ c.if-bad_state.false, tt)
 
-pub returns-then-bad_state : goal.returns-then-bad_state
-returns-then-bad_state c = answer-next 6 (tests (goal.at.returns-then-bad_state c).Start) BadRange (count (goal.at.returns-then-bad_state c).Start) 0
-    (none_6 (goal.at.returns-then-bad_state c).Else-name-gt255) refl (sym c.bad_state.ensures ∙ c.if-bad_state.true)
-
 none_8 : (c : Else-far_record) → None (take 8 (tests (goal.at.Else-far_record c).Start))
 none_8 c = none_next 7 (tests (goal.at.Else-far_record c).Start) (none_7 (goal.at.Else-far_record c).Else-bad_state) (sym c.far_record.ensures ∙ c.if-far_record.false, tt)
-
-pub returns-then-far_record : goal.returns-then-far_record
-returns-then-far_record c = answer-next 7 (tests (goal.at.returns-then-far_record c).Start) BadRange (count (goal.at.returns-then-far_record c).Start) 0
-    (none_7 (goal.at.returns-then-far_record c).Else-bad_state) refl (sym c.far_record.ensures ∙ c.if-far_record.true)
 
 room : (c : Else-far_record) → (let a = c.args in Room 1 (length a.flags.now) a.bo.0 a.bl.0)
 room c =
@@ -103,13 +66,6 @@ room c =
     let n = length a.flags.now in
     let h = none_8 c in
     record { small = ltb-false (2 ^ 28) n h.1.0; fits = ltb-false (n * per 1) (a.bo.0 + a.bl.0 + trailing * per 1) h.1.1.1.0 }
-
-pub count_runs-count-requires : goal.count_runs-count-requires
-count_runs-count-requires c =
-    let r = room (goal.at.count_runs-count-requires c).Else-far_record in
-    let o = c.count-3.ensures in
-    let n = c.count-4.ensures in
-    (omega (arith, r.fits, r.small), omega (arith, r.fits))
 
 module _ (c : After-count_runs-count) where
   counted : c.count_runs-count.result ≡ count (goal.at.After-count_runs-count c).Start
@@ -127,7 +83,7 @@ overflow_add-size c = omega (arith, few c)
 module _ (c : After-count-5) where
   -- the packed bases
   bytes : c.count-5.result ≡ up 2 c.args.bl.0
-  bytes = c.count-5.ensures ∙ c.bytes_as_bases.ensures ∙ ap (up 2) (same (goal.at.After-count-5 c).Else-count)
+  bytes = c.count-5.ensures ∙ c.bytes_as.ensures ∙ ap (up 2) (same (goal.at.After-count-5 c).Else-count)
 
   -- the size of the record
   size : 16 + 8 * c.count_runs-count.result + c.count-5.result ≡ record_size (chars 1 c.args.flags.now c.args.bo.0 c.args.bl.0)
@@ -140,24 +96,21 @@ overflow_add-size-2 c =
 
 -- the record ends beyond the room
 short : (c : After-count-5)
-    → (let a = c.args in a.room < a.place + (16 + 8 * c.count_runs-count.result + c.count-5.result)
-    → answer (Refused NoRoom) 0 0 ≡ answer (first (tests (goal.at.After-count-5 c).Start)) (count (goal.at.After-count-5 c).Start) 0)
+    → (let a = c.args in a.room < a.state.place + (16 + 8 * c.count_runs-count.result + c.count-5.result)
+    → answer (Err NoRoom) 0 0 ≡ answer (first (tests (goal.at.After-count-5 c).Start)) (count (goal.at.After-count-5 c).Start) 0)
 short c l =
     let t = (goal.at.After-count-5 c).Start in
-    answer-next 8 (tests t) NoRoom (count t) 0 (none_8 (goal.at.After-count-5 c).Else-far_record) refl (lt-ltb t.args.room _ (subst (λ (x : ℕ). t.args.room < t.args.place + x) (size c) l))
+    answer-next 8 (tests t) NoRoom (count t) 0 (none_8 (goal.at.After-count-5 c).Else-far_record) refl (lt-ltb t.args.room _ (subst (λ (x : ℕ). t.args.room < t.args.state.place + x) (size c) l))
 
-pub returns-then-room-place : goal.returns-then-room-place
-returns-then-room-place c = short (goal.at.returns-then-room-place c).After-count-5 (omega arith)
-
-pub returns-then-room-place-2 : goal.returns-then-room-place-2
-returns-then-room-place-2 c = short (goal.at.returns-then-room-place-2 c).After-count-5 (omega arith)
+pub returns-then-room-state-2 : goal.returns-then-room-state-2
+returns-then-room-state-2 c = short (goal.at.returns-then-room-state-2 c).After-count-5 (omega arith)
 
 pub returns : goal.returns
 returns c =
     let t = (goal.at.returns c).Start in
-    let l : t.args.place + (16 + 8 * c.count_runs-count.result + c.count-5.result) ≤ t.args.room = omega arith in
+    let l : t.args.state.place + (16 + 8 * c.count_runs-count.result + c.count-5.result) ≤ t.args.room = omega arith in
     answer_done (first (tests t)) _ _ 0
     (sym
     (first_past 9 (tests t)
-    (none_next 8 (tests t) (none_8 (goal.at.returns c).Else-far_record) (le-ltb t.args.room _ (subst (λ (x : ℕ). t.args.place + x ≤ t.args.room) (size (goal.at.returns c).After-count-5) l), tt))))
+    (none_next 8 (tests t) (none_8 (goal.at.returns c).Else-far_record) (le-ltb t.args.room _ (subst (λ (x : ℕ). t.args.state.place + x ≤ t.args.room) (size (goal.at.returns c).After-count-5) l), tt))))
     (counted (goal.at.returns c).After-count_runs-count)

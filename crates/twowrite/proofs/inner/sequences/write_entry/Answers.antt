@@ -11,21 +11,12 @@ use Rattle.twowrite.proofs.SetLaws.{sets-next, sets-length}
 use Rattle.twowrite.proofs.inner.sequences.write_entry.Goals.{After-write_name}
 use Rattle.twowrite.proofs.inner.sequences.write_entry.Goals as goal
 
-pub write_name-requires : goal.write_name-requires
-write_name-requires c =
-    let a = c.args in
-    omega (arith, c.requires.1, length-set a.out.now a.at (length a.name.now))
-
 -- the name stands behind its size, and the buffer is as long as it was
 long : (c : After-write_name) → length c.write_name.new.out ≡ length c.args.out.now
 long c =
     let a = c.args in
     let d = set a.out.now a.at (length a.name.now) in
     sets-length d c.write_name.new.out (a.at + 1) a.name.now c.write_name.ensures ∙ length-set a.out.now a.at (length a.name.now)
-
-pub put_number-requires : goal.put_number-requires
-put_number-requires c =
-    omega (arith, c.requires.1, long (goal.at.put_number-requires c).After-write_name)
 
 pub shape_of-out : goal.shape_of-out
 shape_of-out c =

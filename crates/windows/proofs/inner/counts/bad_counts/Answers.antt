@@ -4,30 +4,11 @@ use Prim.Native.Nat.{ℕ}
 use native.Mathlib.Omega.{arith}
 use Rattle.windows.specs.Windows.{any_lane}
 use Rattle.windows.proofs.RunLaws.{bad_lane, any_step, any_true}
-use borrow.Author.Rules.{rules}
 use Rattle.windows.proofs.inner.counts.bad_counts.Goals.{After-bad_lane}
 use Rattle.windows.proofs.inner.counts.bad_counts.Goals as goal
 
 pub loop-l-init : goal.loop-l-init
-loop-l-init c = (search rules, refl)
-
-pub offset_bounds-counts-l : goal.offset_bounds-counts-l
-offset_bounds-counts-l c = omega arith
-
-pub bounds-counts-l : goal.bounds-counts-l
-bounds-counts-l c = omega arith
-
-pub offset_bounds-enter-l : goal.offset_bounds-enter-l
-offset_bounds-enter-l c = omega arith
-
-pub bounds-enter-l : goal.bounds-enter-l
-bounds-enter-l c = omega arith
-
-pub offset_bounds-leave-l : goal.offset_bounds-leave-l
-offset_bounds-leave-l c = omega arith
-
-pub bounds-leave-l : goal.bounds-leave-l
-bounds-leave-l c = omega arith
+loop-l-init c = refl
 
 pub bad_lane-requires : goal.bad_lane-requires
 bad_lane-requires c =
@@ -44,21 +25,13 @@ pub returns-then-bad_lane : goal.returns-then-bad_lane
 returns-then-bad_lane c = sym (any_true 8 c.loop-l.l (bad (goal.at.returns-then-bad_lane c).After-bad_lane) (omega arith) (at_lane (goal.at.returns-then-bad_lane c).After-bad_lane
     ∙ c.if-bad_lane.true))
 
-pub overflow_add-l : goal.overflow_add-l
-overflow_add-l c = omega arith
-
-pub loop-l-smaller : goal.loop-l-smaller
-loop-l-smaller c = omega arith
-
 pub loop-l-preserved : goal.loop-l-preserved
-loop-l-preserved c = (
-  omega arith,
-  any_step c.loop-l.l (bad (goal.at.loop-l-preserved c).After-bad_lane)
-      ∙ ap₂ (λ (x y : Bool). x || y) c.loop-l.invariant.1 (at_lane (goal.at.loop-l-preserved c).After-bad_lane ∙ c.if-bad_lane.false),
-)
+loop-l-preserved c =
+    any_step c.loop-l.l (bad (goal.at.loop-l-preserved c).After-bad_lane)
+    ∙ ap₂ (λ (x y : Bool). x || y) c.loop-l.invariant (at_lane (goal.at.loop-l-preserved c).After-bad_lane ∙ c.if-bad_lane.false)
 
 pub returns : goal.returns
 returns c =
     let a = c.args in
     let e : c.loop-l.l ≡ 8 = omega arith in
-    sym (subst (λ (n : ℕ). any_lane n (bad_lane a.most a.counts a.enter a.leave) ≡ false) e c.loop-l.invariant.1)
+    sym (subst (λ (n : ℕ). any_lane n (bad_lane a.most a.counts a.enter a.leave) ≡ false) e c.loop-l.invariant)

@@ -1,13 +1,9 @@
 -- The invariant: no lane below l is bad. Assumes nothing.
 use mathlib.Core.Bool.{false}
 use mathlib.Core.Path.{◌≡◌}
-use Prim.Native.Nat.{◌-◌, ◌≤◌}
 use Rattle.windows.specs.Windows.{any_lane}
 use Rattle.windows.proofs.RunLaws.{bad_lane}
 use Rattle.windows.proofs.inner.counts.bad_counts.Given as goal
 
 abbrev pub invariant-loop-l : goal.invariant-loop-l
-invariant-loop-l l = (l.l ≤ 8) × (any_lane l.l (bad_lane l.most l.counts l.enter l.leave) ≡ false)
-
-abbrev pub decreases-loop-l : goal.decreases-loop-l
-decreases-loop-l l = 8 - l.l
+invariant-loop-l l = any_lane l.l (bad_lane l.most l.counts l.enter l.leave) ≡ false

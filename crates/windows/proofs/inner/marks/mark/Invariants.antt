@@ -1,5 +1,5 @@
 -- The invariant: the lanes below l are marked. Assumes nothing.
-use Prim.Native.Nat.{◌-◌, ◌/◌, ◌%◌, ◌^◌, ◌≤◌}
+use Prim.Native.Nat.{◌/◌, ◌%◌, ◌^◌}
 use lib.Dec.{eqb}
 use lib.ListN.{get_or}
 use Rattle.codes.specs.Codes.{pick}
@@ -7,7 +7,4 @@ use Rattle.codes.specs.Made.{Made}
 use Rattle.windows.proofs.inner.marks.mark.Given as goal
 
 abbrev pub invariant-loop-l : goal.invariant-loop-l
-invariant-loop-l l = (l.l ≤ 8) × Made (λ m. pick (eqb (get_or l.words m 0 / 2 ^ l.t % 2) 1) l.stop (get_or l.marks m 0)) 0 l.l l.initial.out l.out
-
-abbrev pub decreases-loop-l : goal.decreases-loop-l
-decreases-loop-l l = 8 - l.l
+invariant-loop-l l = Made (λ m. pick (eqb (get_or l.words m 0 / 2 ^ l.t % 2) 1) l.stop (get_or l.marks m 0)) 0 l.l l.initial.out l.out

@@ -8,38 +8,23 @@ use Rattle.windows.specs.Marks.{shown}
 use Rattle.windows.proofs.inner.marks.write_marks.Goals as goal
 
 pub loop-l-init : goal.loop-l-init
-loop-l-init c = (omega arith, made_none (omega arith))
-
-pub offset_bounds-marks-l : goal.offset_bounds-marks-l
-offset_bounds-marks-l c = omega arith
-
-pub bounds-marks-l : goal.bounds-marks-l
-bounds-marks-l c = omega arith
+loop-l-init c = made_none (omega arith)
 
 pub overflow_add-out : goal.overflow_add-out
 overflow_add-out c = omega arith
 
-pub offset_bounds-out-e : goal.offset_bounds-out-e
-offset_bounds-out-e c = omega (arith, c.loop-l.invariant.1.long)
-
 pub bounds-out-e : goal.bounds-out-e
-bounds-out-e c = omega (arith, c.loop-l.invariant.1.long)
-
-pub overflow_add-l : goal.overflow_add-l
-overflow_add-l c = omega arith
-
-pub loop-l-smaller : goal.loop-l-smaller
-loop-l-smaller c = omega arith
+bounds-out-e c = omega (arith, c.loop-l.invariant.long)
 
 pub loop-l-preserved : goal.loop-l-preserved
 loop-l-preserved c =
     let l = c.loop-l in
     let a = c.args in
     let v = c.show.ensures ∙ ap (λ (m : ℕ). shown a.j (get_or a.marks m 0)) (sym (add-sub_cancel_left a.e l.l)) in
-    (omega arith, made-to (made_more l.invariant.1 (omega arith) (omega arith) v) (omega arith))
+    made-to (made_more l.invariant (omega arith) (omega arith) v) (omega arith)
 
 pub shape_of-out : goal.shape_of-out
-shape_of-out c = c.loop-l.invariant.1.long
+shape_of-out c = c.loop-l.invariant.long
 
 pub returns : goal.returns
-returns c = made-to c.loop-l.invariant.1 (omega arith)
+returns c = made-to c.loop-l.invariant (omega arith)

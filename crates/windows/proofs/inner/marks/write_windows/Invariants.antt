@@ -1,12 +1,8 @@
 -- The invariant: the steps below j + t are marked and written. Assumes nothing.
 use mathlib.Core.Path.{◌≡◌}
-use Prim.Native.Nat.{◌-◌, ◌≤◌}
 use lib.ListN.{length}
 use Rattle.windows.specs.Marks.{TurnsMarks}
 use Rattle.windows.proofs.inner.marks.write_windows.Given as goal
 
 abbrev pub invariant-loop-t : goal.invariant-loop-t
-invariant-loop-t l = (l.t ≤ l.count) × (length l.out ≡ length l.initial.out) × TurnsMarks l.k l.skip l.j l.t l.words l.initial.now l.now l.initial.out l.out
-
-abbrev pub decreases-loop-t : goal.decreases-loop-t
-decreases-loop-t l = l.count - l.t
+invariant-loop-t l = (length l.out ≡ length l.initial.out) × TurnsMarks l.k l.skip l.j l.t l.words l.initial.now l.now l.initial.out l.out

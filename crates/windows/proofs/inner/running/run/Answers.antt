@@ -1,15 +1,16 @@
 -- The step's tests in their order; then the lanes that enter and leave give the answers and the next state. Assumes nothing.
 use mathlib.Core.Bool.{Bool}
 use mathlib.Core.List.{List}
-use mathlib.Core.Path.{◌≡◌, sym, ap, ap₂, ◌∙◌, subst}
+use mathlib.Core.Path.{◌≡◌, refl, sym, ap, ap₂, ◌∙◌, subst}
 use Prim.Native.Nat.{ℕ, ◌+◌, ◌-◌, ◌^◌, ◌<◌, ◌≤◌}
 use native.Mathlib.Nat.{lt_of_lt_of_le}
 use native.Mathlib.Omega.{arith}
 use lib.Dec.{lit≤}
 use lib.ListN.{length, get_or}
 use Rattle.codes.specs.Codes.{chars}
+use Rattle.codes.specs.Refusals.{number_of}
 use Rattle.codes.proofs.CharLaws.{chars-fit}
-use Rattle.codes.proofs.WidthLaws.{width_1}
+use Rattle.codes.specs.Widths.{width_1}
 use Rattle.lanes.specs.Lanes.{lane, lanes, steps}
 use Rattle.lanes.proofs.LaneLaws.{Sized, stream_sizes}
 use Rattle.windows.specs.Answers.{running}
@@ -39,15 +40,15 @@ module _ (s : Start) where
   sized = stream_sizes width_1 (length s.args.bytes.now) s.args.offset.0 s.args.len.0 s.args.context.0 1 opened.view opened.shape
 
 pub plan_of-p-requires : goal.plan_of-p-requires
-plan_of-p-requires c = record { width = width_1; factor_value = (opened (goal.at.plan_of-p-requires c).Start).shape }
+plan_of-p-requires c = (opened (goal.at.plan_of-p-requires c).Start).shape
 
 pub returns-then-p-j : goal.returns-then-p-j
 returns-then-p-j c =
     let a = c.args in
     let e = run_past a.bytes.now a.offset.0 a.len.0 a.context.0 (k (goal.at.returns-then-p-j c).Start) (state (goal.at.returns-then-p-j c).Start) c.requires
     (omega (arith, c.plan_of-p.ensures.steps)) in
-    let q = run_refused a.bytes.now a.offset.0 a.len.0 a.context.0 (k (goal.at.returns-then-p-j c).Start) (state (goal.at.returns-then-p-j c).Start) e c.refused.ensures in
-    record { outcome = q.0; answers = q.1.0; state = q.1.1 }
+    let q = run_refused a.bytes.now a.offset.0 a.len.0 a.context.0 (k (goal.at.returns-then-p-j c).Start) (state (goal.at.returns-then-p-j c).Start) e refl in
+    record { number = q.0; answers = q.1; state = q.2 }
 
 pub overflow_sub-most : goal.overflow_sub-most
 overflow_sub-most c = omega (arith, (opened (goal.at.overflow_sub-most c).Start).low, c.count-most.ensures)
@@ -63,19 +64,11 @@ module _ (c : After-count-m) where
       ap₂ (λ (x : List ℕ) (m : ℕ). lanes x m e (state (goal.at.After-count-m c).Start).at) (ap₂ (chars 1 c.args.bytes.now) c.count-o.ensures c.count-m.ensures) c.plan_of-p.ensures.lane
 
 pub lanes_at-enter-requires : goal.lanes_at-enter-requires
-lanes_at-enter-requires c = record {
-  width = width_1;
-  len_value = rw (c.count-o.ensures, c.count-m.ensures) (opened (goal.at.lanes_at-enter-requires c).Start).view;
-  n_bound = ((few c).0, omega (arith, (few c).1));
-}
+lanes_at-enter-requires c = record { len_value = rw (c.count-o.ensures, c.count-m.ensures) (opened (goal.at.lanes_at-enter-requires c).Start).view; n_bound = ((few c).0, omega (arith, (few c).1)) }
 
 pub lanes_at-leave-requires : goal.lanes_at-leave-requires
 lanes_at-leave-requires c =
-    record {
-      width = width_1;
-      len_value = rw (c.count-o.ensures, c.count-m.ensures) (opened (goal.at.lanes_at-leave-requires c).Start).view;
-      n_bound = ((few (goal.at.lanes_at-leave-requires c).After-count-m).0, omega (arith, (few (goal.at.lanes_at-leave-requires c).After-count-m).1));
-    }
+    record { len_value = rw (c.count-o.ensures, c.count-m.ensures) (opened (goal.at.lanes_at-leave-requires c).Start).view; n_bound = ((few (goal.at.lanes_at-leave-requires c).After-count-m).0, omega (arith, (few (goal.at.lanes_at-leave-requires c).After-count-m).1)) }
 
 module _ (c : After-lanes_at-leave) where
   abbrev enter : List ℕ
@@ -124,9 +117,8 @@ returns-then-bad_counts c =
     let a = c.args in
     let e = run-bad a.bytes.now a.offset.0 a.len.0 a.context.0 (k (goal.at.returns-then-bad_counts c).Start) (state (goal.at.returns-then-bad_counts c).Start) c.requires
     (within (goal.at.returns-then-bad_counts c).After-lanes_at-leave) (judged (goal.at.returns-then-bad_counts c).After-bad_counts c.if-bad_counts.true) in
-    let q = run_refused a.bytes.now a.offset.0 a.len.0 a.context.0 (k (goal.at.returns-then-bad_counts c).Start) (state (goal.at.returns-then-bad_counts c).Start) e
-    c.refused-then-bad_counts.ensures in
-    record { outcome = q.0; answers = q.1.0; state = q.1.1 }
+    let q = run_refused a.bytes.now a.offset.0 a.len.0 a.context.0 (k (goal.at.returns-then-bad_counts c).Start) (state (goal.at.returns-then-bad_counts c).Start) e refl in
+    record { number = q.0; answers = q.1; state = q.2 }
 
 calm : (c : Else-bad_counts) (l : ℕ) → l < 8
     → (get_or (state (goal.at.Else-bad_counts c).Start).counts l 0 ≤ 95)
@@ -157,7 +149,7 @@ returns c =
     let answers = answers_are (cs s) (n s) (k s) (state s) (enter x) (leave x) (enter_is x) (leave_is x) in
     let next = state_is (cs s) (n s) (k s) (state s) (enter x) (leave x) (enter_is x) (leave_is x) in
     record {
-      outcome = sym e;
+      number = sym (ap number_of e);
       answers = c.answers_of-answers.ensures ∙ answers
           ∙ sym r.0;
       state = ap (λ (y : List ℕ). record { counts = y; at = a.state.step + 1 }) c.counts_after-next.ensures ∙ next ∙ sym r.1;

@@ -11,6 +11,3 @@ abbrev pub invariant-loop-j : goal.invariant-loop-j
 invariant-loop-j l =
     (l.j ≤ l.steps) × (l.marks ≡ tab 8 (until_at (chars 1 l.bytes l.offset l.len) l.n l.k l.j)) × Made (window_entry (chars 1 l.bytes l.offset l.len) l.n l.k l.skip) 0
     (8 * (l.j - l.skip)) l.initial.out l.out
-
-abbrev pub decreases-loop-j : goal.decreases-loop-j
-decreases-loop-j l = l.steps - l.j

@@ -2,7 +2,7 @@
 use mathlib.Core.Path.{◌∙◌}
 use native.Mathlib.Omega.{arith}
 use lib.ListN.{length}
-use Rattle.codes.proofs.WidthLaws.{width_1}
+use Rattle.codes.specs.Widths.{width_1}
 use Rattle.lanes.proofs.LaneLaws.{Sized, stream_sizes}
 use Rattle.windows.proofs.RunLaws.{Windowed, window-open}
 use Rattle.windows.proofs.inner.windows.window_one.Goals.{Start}
@@ -16,7 +16,7 @@ module _ (c : Start) where
   sized = stream_sizes width_1 (length c.args.bytes.now) c.args.offset.0 c.args.len.0 c.args.context.0 1 opened.view opened.shape
 
 pub plan_of-p-requires : goal.plan_of-p-requires
-plan_of-p-requires c = record { width = width_1; factor_value = (opened (goal.at.plan_of-p-requires c).Start).shape }
+plan_of-p-requires c = (opened (goal.at.plan_of-p-requires c).Start).shape
 
 pub window_lanes-requires : goal.window_lanes-requires
 window_lanes-requires c =

@@ -1,4 +1,5 @@
 -- The windows' tests, then those of the skip, the partial windows and the room. Assumes nothing.
+use Rattle.std.specs.Prelude.{Ok}
 use mathlib.Core.Bool.{false}
 use mathlib.Core.List.{List}
 use mathlib.Core.Path.{◌≡◌, sym, ap, ap₂, ◌∙◌}
@@ -8,17 +9,16 @@ use lib.Dec.{ltb}
 use lib.ListN.{length}
 use borrow.Author.Tests.{lt-ltb, le-ltb}
 use Rattle.codes.specs.Refusals.{Test, first}
-use Rattle.codes.specs.declared.refusals.Outcome.TheVariants.{Done}
 use Rattle.codes.specs.declared.refusals.Refusal.TheVariants.{BadStream, NoRoom, Partial}
-use Rattle.codes.proofs.WidthLaws.{width_1}
-use Rattle.codes.proofs.OutcomeLaws.{first_refused, answer_done, answer_refused}
+use Rattle.codes.specs.Widths.{width_1}
+use Rattle.codes.proofs.OutcomeLaws.{passes, answer_done, answer_refused}
 use Rattle.codes.proofs.TestLaws.{first_behind}
 use Rattle.lanes.specs.Lanes.{padding, steps}
 use Rattle.windows.specs.Windows.{partial, window_tests, windows_outcome, windows_answer}
 use Rattle.lanes.proofs.LaneLaws.{stream_sizes}
 use Rattle.windows.proofs.RunLaws.{Windowed, window-open}
 use Rattle.windows.proofs.WindowFillLaws.{fills_own}
-use Rattle.windows.proofs.inner.windows.windows_answer.Goals.{After-partial, In-Done, Start}
+use Rattle.windows.proofs.inner.windows.windows_answer.Goals.{After-partial, In_ok-window_outcome, Start}
 use Rattle.windows.proofs.inner.windows.windows_answer.Goals as goal
 
 -- the windows' tests, filling's own, and the answer
@@ -36,25 +36,25 @@ module _ (s : Start) where
   given = (many - s.args.skip, padding 1 s.args.len.0 s.args.context.0 1)
 
 -- the windows are not refused
-module _ (c : In-Done) where
-  done : first (tests (goal.at.In-Done c).Start) ≡ Done
-  done = sym c.window_outcome.ensures ∙ c.in-Done.is
+module _ (c : In_ok-window_outcome) where
+  done : first (tests (goal.at.In_ok-window_outcome c).Start) ≡ Ok tt
+  done = sym c.in_ok-window_outcome.ensures
 
   right : Windowed c.args.bytes.now c.args.offset.0 c.args.len.0 c.args.context.0 c.args.k.0
   right = window-open c.args.bytes.now c.args.offset.0 c.args.len.0 c.args.context.0 c.args.k.0 done
 
 pub plan_of-p-requires : goal.plan_of-p-requires
-plan_of-p-requires c = record { width = width_1; factor_value = (right c).shape }
+plan_of-p-requires c = (right c).shape
 
 pub returns-then-p-skip : goal.returns-then-p-skip
 unfolding windows_answer windows_outcome
 returns-then-p-skip c =
-    let e = first_behind (tests (goal.at.returns-then-p-skip c).Start) (own (goal.at.returns-then-p-skip c).Start) (done (goal.at.returns-then-p-skip c).In-Done) 0
+    let e = first_behind (tests (goal.at.returns-then-p-skip c).Start) (own (goal.at.returns-then-p-skip c).Start) (done (goal.at.returns-then-p-skip c).In_ok-window_outcome) 0
     (lt-ltb (many (goal.at.returns-then-p-skip c).Start) c.args.skip (omega (arith, c.plan_of-p.ensures.steps))) in
     answer_refused _ BadStream (given (goal.at.returns-then-p-skip c).Start) (0, 0) (sym e)
 
 pub partial-requires : goal.partial-requires
-partial-requires c = (right (goal.at.partial-requires c).In-Done).low
+partial-requires c = (right (goal.at.partial-requires c).In_ok-window_outcome).low
 
 -- nor is the skip
 module _ (c : After-partial) where
@@ -67,14 +67,14 @@ module _ (c : After-partial) where
 pub returns-then-partial : goal.returns-then-partial
 unfolding windows_answer windows_outcome
 returns-then-partial c =
-    let e = first_behind (tests (goal.at.returns-then-partial c).Start) (own (goal.at.returns-then-partial c).Start) (done (goal.at.returns-then-partial c).In-Done) 1
+    let e = first_behind (tests (goal.at.returns-then-partial c).Start) (own (goal.at.returns-then-partial c).Start) (done (goal.at.returns-then-partial c).In_ok-window_outcome) 1
     (skips (goal.at.returns-then-partial c).After-partial, judged (goal.at.returns-then-partial c).After-partial ∙ c.if-partial.true) in
     answer_refused _ Partial (given (goal.at.returns-then-partial c).Start) (0, 0) (sym e)
 
 pub overflow_mul-left : goal.overflow_mul-left
 overflow_mul-left c =
     let a = c.args in
-    let z = stream_sizes width_1 (length a.bytes.now) a.offset.0 a.len.0 a.context.0 1 (right (goal.at.overflow_mul-left c).In-Done).view (right (goal.at.overflow_mul-left c).In-Done).shape in
+    let z = stream_sizes width_1 (length a.bytes.now) a.offset.0 a.len.0 a.context.0 1 (right (goal.at.overflow_mul-left c).In_ok-window_outcome).view (right (goal.at.overflow_mul-left c).In_ok-window_outcome).shape in
     omega (arith, z.steps-few, c.plan_of-p.ensures.steps)
 
 pub returns-then-room-left : goal.returns-then-room-left
@@ -83,26 +83,25 @@ returns-then-room-left c =
     let a = c.args in
     let q = c.plan_of-p.ensures.steps in
     let room = lt-ltb a.room (8 * (many (goal.at.returns-then-room-left c).Start - a.skip)) (omega arith) in
-    let e = first_behind (tests (goal.at.returns-then-room-left c).Start) (own (goal.at.returns-then-room-left c).Start) (done (goal.at.returns-then-room-left c).In-Done) 2
+    let e = first_behind (tests (goal.at.returns-then-room-left c).Start) (own (goal.at.returns-then-room-left c).Start) (done (goal.at.returns-then-room-left c).In_ok-window_outcome) 2
     (skips (goal.at.returns-then-room-left c).After-partial, (judged (goal.at.returns-then-room-left c).After-partial ∙ c.if-partial.false, room)) in
     answer_refused _ NoRoom (given (goal.at.returns-then-room-left c).Start) (0, 0) (sym e)
 
-pub returns-in-Refused : goal.returns-in-Refused
+pub returns-in_err-window_outcome : goal.returns-in_err-window_outcome
 unfolding windows_answer windows_outcome
-returns-in-Refused c =
-    answer_refused _ c.in-Refused.refusal (given (goal.at.returns-in-Refused c).Start) (
-      0,
-      0,
-    ) (first_refused (tests (goal.at.returns-in-Refused c).Start) (own (goal.at.returns-in-Refused c).Start) c.in-Refused.refusal (sym c.window_outcome.ensures ∙ c.in-Refused.is))
+returns-in_err-window_outcome c =
+    let s = (goal.at.returns-in_err-window_outcome c).Start in
+    let p = passes (tests s) (own s) _ _ c.in_err-window_outcome.ensures c.from_residual.ensures.1 in
+    rw (p.0, p.1)
 
-pub returns-else-room-left : goal.returns-else-room-left
+pub returns : goal.returns
 unfolding windows_answer windows_outcome
-returns-else-room-left c =
+returns c =
     let a = c.args in
     let p = c.plan_of-p in
     let q = p.ensures.steps in
-    let room = le-ltb a.room (8 * (many (goal.at.returns-else-room-left c).Start - a.skip)) (omega arith) in
-    let e = first_behind (tests (goal.at.returns-else-room-left c).Start) (own (goal.at.returns-else-room-left c).Start) (done (goal.at.returns-else-room-left c).In-Done) 3
-    (skips (goal.at.returns-else-room-left c).After-partial, (judged (goal.at.returns-else-room-left c).After-partial ∙ c.if-partial.false, (room, tt))) in
-    answer_done _ (p.result.steps - a.skip, c.new.result.0) (given (goal.at.returns-else-room-left c).Start) (0, 0) (sym e)
+    let room = le-ltb a.room (8 * (many (goal.at.returns c).Start - a.skip)) (omega arith) in
+    let e = first_behind (tests (goal.at.returns c).Start) (own (goal.at.returns c).Start) (done (goal.at.returns c).In_ok-window_outcome) 3
+    (skips (goal.at.returns c).After-partial, (judged (goal.at.returns c).After-partial ∙ c.if-partial.false, (room, tt))) in
+    answer_done _ (p.result.steps - a.skip, c.new.result.0) (given (goal.at.returns c).Start) (0, 0) (sym e)
     (ap₂ (λ (x y : ℕ). (x - a.skip, y)) q (c.new.ensures ∙ p.ensures.padding))

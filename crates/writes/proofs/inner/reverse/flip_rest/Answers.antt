@@ -10,16 +10,16 @@ use Rattle.writes.proofs.TableLaws.{by_table}
 use Rattle.writes.proofs.inner.reverse.flip_rest.Goals as goal
 
 pub returns-then-bits-eq0 : goal.returns-then-bits-eq0
-returns-then-bits-eq0 c = made_none (omega arith)
+returns-then-bits-eq0 g c = made_none (omega arith)
 
-pub returns-then-w-eq2 : goal.returns-then-w-eq2
-returns-then-w-eq2 c =
+pub returns-then-BITS-eq2 : goal.returns-then-BITS-eq2
+returns-then-BITS-eq2 g c =
     let a = c.args in
-    let two : 2 ≡ a.w = omega arith in
-    by_table c.requires.width (c.base_flips-table.ensures ∙ ap flips two) (word 8 a.bytes.now / 2 ^ a.p) a.bits c.requires.w_value (omega arith) c.flip_bytes.ensures
+    let two : 2 ≡ g.W.Width.BITS = omega (arith, c.BITS.ensures) in
+    by_table g.W.Width.divides (c.base_flips-table.ensures ∙ ap flips two) (word 8 a.bytes.now / 2 ^ a.p) a.bits c.requires.bits_value (omega arith) c.flip_bytes.ensures
 
-pub returns-else-w-eq2 : goal.returns-else-w-eq2
-returns-else-w-eq2 c =
+pub returns-else-BITS-eq2 : goal.returns-else-BITS-eq2
+returns-else-BITS-eq2 g c =
     let a = c.args in
-    let one : 1 ≡ a.w = omega (arith, width_pos c.requires.width) in
-    by_table c.requires.width (c.flag_flips-table.ensures ∙ ap flips one) (word 8 a.bytes.now / 2 ^ a.p) a.bits c.requires.w_value (omega arith) c.flip_bytes-else-w-eq2.ensures
+    let one : 1 ≡ g.W.Width.BITS = omega (arith, c.BITS.ensures, width_pos g.W.Width.divides, g.W.Width.narrow) in
+    by_table g.W.Width.divides (c.flag_flips-table.ensures ∙ ap flips one) (word 8 a.bytes.now / 2 ^ a.p) a.bits c.requires.bits_value (omega arith) c.flip_bytes-else-BITS-eq2.ensures

@@ -1,0 +1,68 @@
+// The two widths: a base takes two bits, a flag one.
+ghost use Rattle.std.specs.Prelude.{◌≡◌, ℕ, ◌/◌, ◌≤◌};
+ghost use Rattle.codes.specs.Codes.{IsWidth, code, complement};
+ghost use Rattle.codes.specs.Widths.{width_1, width_2, narrow_1, narrow_2};
+ghost use Rattle.codes.specs.Words.{flip};
+
+use crate::inner::flips::{flip_bases, flip_flags};
+use crate::letters::{char_is_ambiguous, pack_char_lossy};
+
+pub trait Width {
+    ghost BITS: { ℕ };
+
+    const BITS: usize;
+
+    ghost divides: { IsWidth BITS };
+
+    ghost narrow: { BITS ≤ 2 };
+
+    // What a letter is.
+    fn code_of(letter: u8) -> u8
+        ensures { result ≡ code BITS letter };
+
+    // All characters of x in reverse, bases complemented.
+    fn flip_word(x: u64) -> u64
+        ensures { result ≡ flip BITS (complement BITS) (64 / BITS) x };
+}
+
+#[derive(Clone, Copy)]
+pub struct Bases;
+
+impl Width for Bases {
+    ghost BITS = { 2 };
+
+    ghost divides = { width_2 };
+
+    ghost narrow = { narrow_2 };
+
+    const BITS: usize = 2;
+
+    fn code_of(letter: u8) -> u8 {
+        pack_char_lossy(letter)
+    }
+
+    fn flip_word(x: u64) -> u64 {
+        flip_bases(x)
+    }
+}
+
+#[derive(Clone, Copy)]
+pub struct Flags;
+
+impl Width for Flags {
+    ghost BITS = { 1 };
+
+    ghost divides = { width_1 };
+
+    ghost narrow = { narrow_1 };
+
+    const BITS: usize = 1;
+
+    fn code_of(letter: u8) -> u8 {
+        char_is_ambiguous(letter)
+    }
+
+    fn flip_word(x: u64) -> u64 {
+        flip_flags(x)
+    }
+}
