@@ -22,7 +22,7 @@ module _ {A V : Type 0} (f : A → V) (zeros : V) (g : V → A) (back : (x : A) 
   told_by = record { make = result_of g; back = made }
 
 pub told : Told says
-told = told_by (λ x. x) 0 (λ x. x) (λ x. refl)
+told = told_by (λ x. x) _ (λ x. x) (λ x. refl)
 
 pub word128_told : Told word128_says
-word128_told = told_by (λ p. (p.low, p.high)) (0, 0) (λ v. record { low = v.0; high = v.1 }) (λ p. refl)
+word128_told = told_by (λ p. (p.low, p.high)) _ (λ v. record { low = v.0; high = v.1 }) (λ p. refl)

@@ -1,4 +1,4 @@
-// The two widths: a base takes two bits, a flag one.
+// The widths: a base takes two bits, a flag one.
 ghost use Rattle.std.specs.Prelude.{◌≡◌, ℕ, ◌/◌, ◌≤◌};
 ghost use Rattle.codes.specs.Codes.{IsWidth, code, complement};
 ghost use Rattle.codes.specs.Widths.{width_1, width_2, narrow_1, narrow_2};
@@ -14,15 +14,18 @@ pub trait Width {
 
     ghost divides: { IsWidth BITS };
 
-    ghost narrow: { BITS ≤ 2 };
-
     // What a letter is.
     fn code_of(letter: u8) -> u8
         ensures { result ≡ code BITS letter };
+}
 
+// A width whose characters can be reversed: two bits at most.
+pub trait Reverses: Width {
     // All characters of x in reverse, bases complemented.
     fn flip_word(x: u64) -> u64
-        ensures { result ≡ flip BITS (complement BITS) (64 / BITS) x };
+        ensures { result ≡ flip Self.BITS (complement Self.BITS) (64 / Self.BITS) x };
+
+    ghost narrow: { Self.BITS ≤ 2 };
 }
 
 #[derive(Clone, Copy)]
@@ -33,17 +36,19 @@ impl Width for Bases {
 
     ghost divides = { width_2 };
 
-    ghost narrow = { narrow_2 };
-
     const BITS: usize = 2;
 
     fn code_of(letter: u8) -> u8 {
         pack_char_lossy(letter)
     }
+}
 
+impl Reverses for Bases {
     fn flip_word(x: u64) -> u64 {
         flip_bases(x)
     }
+
+    ghost narrow = { narrow_2 };
 }
 
 #[derive(Clone, Copy)]
@@ -54,15 +59,17 @@ impl Width for Flags {
 
     ghost divides = { width_1 };
 
-    ghost narrow = { narrow_1 };
-
     const BITS: usize = 1;
 
     fn code_of(letter: u8) -> u8 {
         char_is_ambiguous(letter)
     }
+}
 
+impl Reverses for Flags {
     fn flip_word(x: u64) -> u64 {
         flip_flags(x)
     }
+
+    ghost narrow = { narrow_1 };
 }

@@ -15,6 +15,7 @@ use Rattle.codes.proofs.FieldLaws.{field_of, word-chars}
 use Rattle.codes.proofs.OutcomeLaws.{first_both, passed}
 use Rattle.codes.proofs.RefusalLaws.{word_in}
 use Rattle.codes.proofs.TabLaws.{Below-of, get_or-tab, chars_of-tab, word_at}
+use Rattle.codes.proofs.WidthLaws.{below_or, whole}
 use Rattle.codes.proofs.WordLaws.{Below}
 use Rattle.fields.specs.Fields.{word_tests}
 use Rattle.fields.proofs.ViewLaws.{view_accepted, room_sum}
@@ -49,6 +50,10 @@ module _ {w : ℕ} (W : IsWidth w) (bs : List ℕ) (o len : ℕ) (e : first (vie
 
   pub view_field : ((i : ℕ) → get_or bs i 0 < 2 ^ 8) → (len' : ℕ) → len' ≡ len → word 8 bs / 2 ^ (w * o') % 2 ^ (w * len') ≡ word w (chars w bs o len)
   view_field b len' el = ap₂ (λ (p q : ℕ). word 8 bs / 2 ^ (w * p) % 2 ^ (w * q)) eo el ∙ sym (word-chars W bs (Below-of 8 bs b) o len)
+
+-- 56 bits hold one character or more
+pub turn_pos : {w : ℕ} → IsWidth w → 0 < 56 / w
+turn_pos {w} W = below_or 0 (56 / w) (λ h. h) (λ h. let e : 56 / w ≡ 0 = omega arith in let z : 56 ≡ w * 0 = sym (whole W 7) ∙ ap (λ (x : ℕ). w * x) e in absurd (omega arith))
 
 -- a view whose word is not refused
 pub record Wordy (w n o len least bits : ℕ) : Type 0 where

@@ -113,4 +113,4 @@ slice_cut w n o len start end e =
 
 -- the numbers of a part can be made again from what they say
 pub numbers_told : Told numbers_say
-numbers_told = told_by (λ n. (n.offset.0, n.len.0)) (0, 0) (λ v. record { offset = record { 0 = v.0 }; len = record { 0 = v.1 } }) (λ n. refl)
+numbers_told = told_by (λ n. (n.offset.0, n.len.0)) _ (λ v. record { offset = record { 0 = v.0 }; len = record { 0 = v.1 } }) (λ n. refl)

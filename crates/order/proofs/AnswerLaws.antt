@@ -26,7 +26,7 @@ order_back Greater = refl
 
 pub compared_told : Told compared_says
 compared_told =
-    told_by (λ c. (order_number c.order, c.common.0)) (pos 0, 0) (λ v. record { order = order_at v.0; common = record { 0 = v.1 } })
+    told_by (λ c. (order_number c.order, c.common.0)) _ (λ v. record { order = order_at v.0; common = record { 0 = v.1 } })
     (λ c. ap (λ (o : Ordering). record { order = o; common = c.common }) (order_back c.order))
 
 -- the place of a number, if it was found
@@ -39,4 +39,4 @@ place_back None = refl
 place_back (Some p) = refl
 
 pub found_told : Told found_says
-found_told = told_by (λ p. placed (counted p)) (false, 0) place_at place_back
+found_told = told_by (λ p. placed (counted p)) _ place_at place_back

@@ -4,7 +4,7 @@
 use mathlib.Core.List.{List}
 use mathlib.Core.Path.{◌≡◌, refl, sym, ap, ap₂, ◌∙◌, subst}
 use Prim.Native.Nat.{ℕ, zero, suc, ◌+◌, ◌-◌, ◌*◌, ◌/◌, ◌%◌, ◌^◌, ◌≤◌, ◌<◌, min}
-use native.Mathlib.Nat.{add_comm, add_assoc, add-sub_of_le, mul-add, mul-suc, mul_comm, mul-le-mul_left, div-one, mod-one, zero-div, zero-mod, mul-div-le, lt-div-mul-add}
+use native.Mathlib.Nat.{add_comm, add_assoc, add-sub_of_le, mul-add, mul-suc, mul_comm, mul-le-mul_left, mul-le-mul_right, div-one, mod-one, zero-div, zero-mod, mul-div-le, lt-div-mul-add}
 use native.Mathlib.Nat.{le_of_suc-le-suc, lt_of_lt_of_le, lt_of_le_of_lt, lt_trans, le_of_lt, le_trans, lt_of_mul-lt-mul_left, min-le_left, min-le_right, le-min, min-eq_left, min-eq_right}
 use native.Mathlib.Numerals.{add-one}
 use native.Mathlib.Omega.{arith}
@@ -161,6 +161,18 @@ module _ {w : ℕ} (W : IsWidth w) (s t : List ℕ) (bs : Below 8 s) (bt : Below
       other e =
           differ_at W s t bs bt (o + i) (o' + i) p q x y hx hy m (m / w) (set_at-zeros 64 (bit_xor x y) (lt_trans small (lit< tt))) lo hi (char_within W m small)
           (ap (char_at w s) (add_assoc o i (m / w)) ∙ e ∙ ap (char_at w t) (sym (add_assoc o' i (m / w))))
+
+-- n characters, k of them a turn: a turn that is taken begins within them, and all turns together pass them
+module _ {n k t : ℕ} (some : 0 < k) where
+  pub turn_begins : t < (n + (k - 1)) / k → k * t < n
+  turn_begins l =
+      let up : k * t + k ≤ k * ((n + (k - 1)) / k) = subst (λ (m : ℕ). m ≤ k * ((n + (k - 1)) / k)) (mul-suc k t) (mul-le-mul_left k l) in
+      omega (arith, up, mul-div-le (n + (k - 1)) k, some)
+
+  pub turns_pass : (n + (k - 1)) / k ≤ t → n ≤ k * t
+  turns_pass l =
+      let over : n + (k - 1) < (n + (k - 1)) / k * k + k = lt-div-mul-add some in
+      omega (arith, over, mul-le-mul_right k l, mul_comm t k, some)
 
 -- two views, and the n places that both have
 pub record Two (w : ℕ) (s : List ℕ) (o al : ℕ) (t : List ℕ) (o' bl n : ℕ) : Type 0 where

@@ -18,6 +18,7 @@ use fields::inner::parts::Numbers;
 use views::view::Part;
 
 // The order of two views, and the count of their equal leading characters. They are equal where neither comes first.
+#[inline]
 pub fn compare<W: Width>(
     a: &[u8],
     ao: Chars,

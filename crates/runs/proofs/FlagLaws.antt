@@ -3,7 +3,7 @@
 use mathlib.Core.List.{List, map}
 use mathlib.Core.Path.{◌≡◌, sym, ap, ap₂, ◌∙◌, subst}
 use Prim.Native.Nat.{ℕ, ◌+◌, ◌-◌, ◌*◌, ◌/◌, ◌%◌, ◌^◌, ◌≤◌, ◌<◌, max}
-use native.Mathlib.Nat.{add_assoc, one-mul, div-one, mod-eq_of_lt, div-eq_of_lt, lt_of_lt_of_le, zero-div, zero-max, max-zero}
+use native.Mathlib.Nat.{add_assoc, one-mul, div-one, mod-eq_of_lt, div-eq_of_lt, lt_of_lt_of_le, zero-max, max-zero}
 use native.Mathlib.Omega.{arith}
 use borrow.Author.Tests.{eq-eqb, ne_eqb}
 use lib.Bits.{bit_and, bit_or, bit_xor}

@@ -5,14 +5,14 @@ use mathlib.Core.Path.{◌≡◌, sym, ap, ◌∙◌, subst}
 use Prim.Native.Nat.{ℕ, ◌+◌, ◌-◌, ◌*◌, ◌/◌, ◌%◌, ◌^◌, ◌≤◌, ◌<◌}
 use native.Mathlib.Nat.{mod-lt, mul-le-mul_right, suc-mul, add-mul, div-mul-le_self, le_trans}
 use native.Mathlib.Omega.{arith}
-use lib.ListN.{length, get_or, set}
+use lib.ListN.{length, get_or}
 use lib.Pow.{pow_pos}
 use lib.Seq.{ext_get_or}
 use Rattle.codes.specs.Codes.{IsWidth, per, char_at, tab, code}
 use Rattle.codes.specs.Made.{Made}
 use Rattle.codes.specs.Words.{word}
 use Rattle.codes.proofs.CharLaws.{char_at-at, byte_char_at, get_or-pack, length-pack}
-use Rattle.codes.proofs.MadeLaws.{made_more, made-next, made-join, made_as}
+use Rattle.codes.proofs.MadeLaws.{made-join, made_as}
 use Rattle.codes.proofs.TabLaws.{length-tab, tab-ext, Below-tab}
 use Rattle.codes.proofs.WidthLaws.{below_or}
 use Rattle.codes.proofs.WordLaws.{word_lt}

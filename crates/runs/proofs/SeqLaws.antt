@@ -1,6 +1,6 @@
 -- The laws of a view that is pushed: its gap, its characters, and the bytes that it shares with the store.
 -- Assumes nothing.
-use mathlib.Core.List.{List, ◌++◌}
+use mathlib.Core.List.{List, [], ◌++◌}
 use mathlib.Core.Path.{◌≡◌, sym, ap, ◌∙◌}
 use Prim.Native.Nat.{ℕ, ◌+◌, ◌-◌, ◌*◌, ◌/◌, ◌%◌, ◌^◌, ◌≤◌, ◌<◌}
 use native.Mathlib.Nat.{lt_of_lt_of_le, le_of_lt, suc-mul, mul-le-mul_right, div-add-mod', mul-add-div_right, add-mul, add_assoc, mod-lt, zero-div, zero-mod}
@@ -49,13 +49,14 @@ module _ {w : ℕ} (W : IsWidth w) where
   gap_nth q i h =
       ap (λ (x : ℕ). nth w x i) q ∙ word_at w (tab (per w) (λ k. gap_char w)) (Below-tab w (per w) (λ k. gap_char w) (λ k. gap_fits)) i ∙ get_or-tab (per w) (λ k. gap_char w) i h
 
-  -- the run of the byte that they share with it
-  pub made-gap : (len : ℕ) {k v b : ℕ} {d e : List ℕ} → k ≡ len % per w → v ≡ word w (tab (per w) (λ k. gap_char w)) → b ≡ len / per w → 0 < k
-      → ((j : ℕ) → get_or e j 0 < 256) → Made (λ j. both w k (get_or d j 0) v) b (b + 1) d e → Made (anew w d len (near w len) (up w len * per w)) (len / per w) (up w len) d e
-  made-gap len {k} {v} {b} {d} {e} ks vs bs some bytes z = record {
+  -- the run of the byte in which len characters end: what stands behind them there are the first of cs
+  pub made-behind : (len : ℕ) (cs : List ℕ) (v : ℕ) {k b : ℕ} {d e : List ℕ} → k ≡ len % per w → b ≡ len / per w → 0 < k
+      → ((i : ℕ) → k ≤ i → i < per w → nth w v i ≡ get_or cs (i - k) 0)
+      → ((j : ℕ) → get_or e j 0 < 256) → Made (λ j. both w k (get_or d j 0) v) b (b + 1) d e → Made (anew w d len cs (up w len * per w)) (len / per w) (up w len) d e
+  made-behind len cs v {k} {b} {d} {e} ks bs some vs bytes z = record {
     long = z.long;
     below = λ j h. z.below j (omega arith);
-    new = λ j h l. byte_fresh W (get_or d j 0) len (near w len) (up w len * per w) j (get_or e j 0) (bytes j) (char j (omega (arith, u)));
+    new = λ j h l. byte_fresh W (get_or d j 0) len cs (up w len * per w) j (get_or e j 0) (bytes j) (char j (omega (arith, u)));
     above = λ j h. z.above j (omega (arith, u));
   }
     where
@@ -65,14 +66,27 @@ module _ {w : ℕ} (W : IsWidth w) where
       u : up w len ≡ len / p + 1
       u = up-part W len (omega arith)
 
-      char : (j : ℕ) → j ≡ b → (i : ℕ) → i < p → nth w (get_or e j 0) i ≡ splice (λ x. nth w (get_or d j 0) i) len (near w len) (up w len * p) (j * p + i)
+      char : (j : ℕ) → j ≡ b → (i : ℕ) → i < p → nth w (get_or e j 0) i ≡ splice (λ x. nth w (get_or d j 0) i) len cs (up w len * p) (j * p + i)
       char j q i m =
           let at : j * p + k ≡ len = ap (λ (x : ℕ). x * p + k) (q ∙ bs) ∙ omega (arith, div-add-mod' len p) in
           let top : up w len * p ≡ j * p + p = ap (λ (x : ℕ). x * p) u ∙ ap (λ (x : ℕ). (x + 1) * p) (sym (q ∙ bs)) ∙ omega (arith, suc-mul j p) in
           below_or i k
-          (λ h. above_own w k v z j i (λ r. h) ∙ sym (splice-old _ len (near w len) (up w len * p) (j * p + i) (omega arith)))
-          (λ h. above_new w k v z j i q h ∙ gap_nth vs i m
-          ∙ sym (splice-new _ len (near w len) (up w len * p) (j * p + i) (omega arith) (omega arith) ∙ get_or-replicate (up w len * p - len) (j * p + i - len) (gap_char w) 0 (omega arith)))
+          (λ h. above_own w k v z j i (λ r. h) ∙ sym (splice-old _ len cs (up w len * p) (j * p + i) (omega arith)))
+          (λ h. above_new w k v z j i q h ∙ vs i h m ∙ ap (λ (x : ℕ). get_or cs x 0) (omega arith)
+          ∙ sym (splice-new _ len cs (up w len * p) (j * p + i) (omega arith) (omega arith)))
+
+  -- the gap, where the byte is not full
+  pub made-gap : (len : ℕ) {k v b : ℕ} {d e : List ℕ} → k ≡ len % per w → v ≡ word w (tab (per w) (λ k. gap_char w)) → b ≡ len / per w → 0 < k
+      → ((j : ℕ) → get_or e j 0 < 256) → Made (λ j. both w k (get_or d j 0) v) b (b + 1) d e → Made (anew w d len (near w len) (up w len * per w)) (len / per w) (up w len) d e
+  made-gap len {k} {v} ks vs bs some =
+      let top : up w len * per w ≡ len / per w * per w + per w = ap (λ (x : ℕ). x * per w) (up-part W len (omega arith)) ∙ omega (arith, suc-mul (len / per w) (per w)) in
+      made-behind len (near w len) v ks bs some
+      (λ i h m. gap_nth vs i m ∙ sym (get_or-replicate (up w len * per w - len) (i - k) (gap_char w) 0 (omega (arith, top, div-add-mod' len (per w)))))
+
+  -- and zeros
+  pub made-rest : (at : ℕ) {k b : ℕ} {d e : List ℕ} → k ≡ at % per w → b ≡ at / per w → 0 < k
+      → ((j : ℕ) → get_or e j 0 < 256) → Made (λ j. both w k (get_or d j 0) 0) b (b + 1) d e → Made (anew w d at [] (up w at * per w)) (at / per w) (up w at) d e
+  made-rest at ks bs some = made-behind at [] 0 ks bs some (λ i h m. rw (zero-div, zero-mod))
 
 module _ {w : ℕ} (W : IsWidth w) (len : ℕ) (view : List ℕ) (o n : ℕ) where
   abbrev st : ℕ

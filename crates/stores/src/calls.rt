@@ -9,7 +9,7 @@ use crate::inner::outcomes::{clear_outcome, end_outcome, letters_outcome, seq_ou
 use codes::units::Chars;
 use codes::widths::Width;
 use runs::inner::seqs::{Place, write_seq};
-use runs::inner::writes::{fill_letters, write_letters};
+use runs::inner::writes::{fill_letters, write_end, write_letters};
 
 // Makes a buffer an empty store.
 pub fn clear<W: Width>(buffer: &mut [u8]) -> Result<Chars, Unchanged>
@@ -101,6 +101,6 @@ pub fn cut<W: Width>(buffer: &mut [u8], len: Chars, m: Chars) -> Result<Chars, U
     let none = Chars::new(0);
     let at = m.count();
     end_outcome::<W>(buffer.len(), len, none, at).map_err(|refusal| Unchanged { refusal, len })?;
-    write_letters::<W>(buffer, at, b"");
+    write_end::<W>(buffer, at);
     Ok(m)
 }

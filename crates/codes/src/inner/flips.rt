@@ -5,7 +5,7 @@ ghost use Rattle.codes.specs.Codes.{complement};
 ghost use Rattle.codes.specs.Words.{flip, same};
 
 use crate::inner::bits::{Pair, shr_pair};
-use crate::widths::Width;
+use crate::widths::Reverses;
 
 // The 32 pairs of bits of x in reverse.
 fn flip_pairs(x: u64) -> u64
@@ -34,7 +34,7 @@ pub(crate) fn flip_flags(x: u64) -> u64
 }
 
 // The n low characters of x in reverse, bases complemented.
-pub fn flip_low<W: Width>(x: u64, n: usize) -> u64
+pub fn flip_low<W: Reverses>(x: u64, n: usize) -> u64
     requires { (1 ≤ n) × (W.BITS * n ≤ 64) }
     ensures { result ≡ flip W.BITS (complement W.BITS) n x }
 {
@@ -42,7 +42,7 @@ pub fn flip_low<W: Width>(x: u64, n: usize) -> u64
 }
 
 // The n low characters of a word of two halves in reverse: each half is flipped, and they change places.
-pub fn flip_low_pair<W: Width>(low: u64, high: u64, n: usize) -> Pair
+pub fn flip_low_pair<W: Reverses>(low: u64, high: u64, n: usize) -> Pair
     requires { (1 ≤ n) × (W.BITS * n ≤ 128) }
     ensures { result.high * 2 ^ 64 + result.low ≡ flip W.BITS (complement W.BITS) n (high * 2 ^ 64 + low) }
 {

@@ -277,8 +277,8 @@ pub fn started(
         left: 0,
     };
     let (no, state) = split(answer, none);
-    *entry = state.entry;
     *stop = state.stop;
+    *entry = state.entry;
     *place = state.place;
     *left = state.left;
     no

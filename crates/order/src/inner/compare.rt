@@ -27,7 +27,8 @@ pub(crate) fn compare_views<W: Width>(
     let w = W::BITS;
     let n = smaller(al, bl);
     let turn = over_width::<W>(56);
-    for i in (0..n).step_by(turn) {
+    for t in 0..(n + (turn - 1)) / turn {
+        let i = turn * t;
         let x = peek(a, w * (ao + i));
         let y = peek(b, w * (bo + i));
         let z = x ^ y;

@@ -31,7 +31,7 @@ pub(crate) fn join_above<W: Width>(buffer: &mut [u8], b: usize, k: usize, high: 
 
 // A byte of letters, from letter i on.
 fn whole_byte<W: Width>(letters: &[u8], i: usize) -> u64
-    requires { i + per W.BITS ≤ length letters.now }
+    requires { (W.BITS ≤ 2) × (i + per W.BITS ≤ length letters.now) }
     ensures { result ≡ letters_word W.BITS (per W.BITS) letters.now i }
 {
     // Known when this is compiled; a trait of its own over `Width` would be one bound more on each function above.
@@ -43,7 +43,7 @@ fn whole_byte<W: Width>(letters: &[u8], i: usize) -> u64
 
 // The first letters from character k of a byte on.
 pub(crate) fn first_letters<W: Width>(letters: &[u8], k: usize) -> u8
-    requires { (per W.BITS ≤ length letters.now) × (k ≤ per W.BITS) }
+    requires { (W.BITS ≤ 2) × (per W.BITS ≤ length letters.now) × (k ≤ per W.BITS) }
     ensures { result ≡ letters_word W.BITS (per W.BITS) letters.now 0 * 2 ^ (W.BITS * k) % 2 ^ 8 }
 {
     ((whole_byte::<W>(letters, 0) << (W::BITS * k)) % 0x100) as u8
@@ -51,7 +51,7 @@ pub(crate) fn first_letters<W: Width>(letters: &[u8], k: usize) -> u8
 
 // The last n letters, no more than a byte holds, from its first character on.
 pub(crate) fn last_letters<W: Width>(letters: &[u8], n: usize) -> u8
-    requires { (per W.BITS ≤ length letters.now) × (n ≤ per W.BITS) }
+    requires { (W.BITS ≤ 2) × (per W.BITS ≤ length letters.now) × (n ≤ per W.BITS) }
     ensures { result ≡ letters_word W.BITS (per W.BITS) letters.now (length letters.now - per W.BITS) / 2 ^ (W.BITS * (per W.BITS - n)) % 2 ^ 8 }
 {
     let c = per_byte::<W>().count();

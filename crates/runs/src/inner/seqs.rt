@@ -37,8 +37,9 @@ fn copy_words(buffer: &mut [u8], from: usize, to: usize, view: &[u8], lead: usiz
     requires from_in_bounds { lead + (to - from) ≤ length view.now }
     ensures { Made (λ j. get_or view.now (lead + (j - from)) 0) from to buffer.old buffer.new }
 {
-    for j in (from..to - 8).step_by(8) {
-        store64(buffer, j, load64(view, lead + (j - from)));
+    // By the number of words: of a loop with `step_by` the compiler makes no loop of vectors.
+    for k in 0..(to - from - 1) / 8 {
+        store64(buffer, from + 8 * k, load64(view, lead + 8 * k));
     }
     store64(buffer, to - 8, load64(view, lead + (to - 8 - from)));
 }

@@ -1,8 +1,8 @@
 // New letters in a buffer: by four or eight letters, the bytes at both ends joined with what stands there; a few character by character.
-ghost use Rattle.std.specs.Prelude.{map, ◌≡◌, ◌+◌, ◌-◌, ◌*◌, ◌^◌, ◌≤◌, length};
+ghost use Rattle.std.specs.Prelude.{[], map, ◌≡◌, ◌+◌, ◌-◌, ◌*◌, ◌/◌, ◌^◌, ◌≤◌, length};
 ghost use Rattle.codes.specs.Codes.{per, up, trailing, code};
 ghost use Rattle.codes.specs.Made.{Made};
-ghost use Rattle.runs.specs.Bytes.{letters_word};
+ghost use Rattle.runs.specs.Bytes.{anew, letters_word};
 ghost use Rattle.runs.specs.Runs.{spliced, written};
 
 use crate::inner::edges::{edge_run, first_letters, join_above, join_below, last_letters};
@@ -14,6 +14,7 @@ use codes::widths::Width;
 
 // The bytes from byte `from` up to byte `to`, which hold new letters alone.
 fn whole_run<W: Width>(buffer: &mut [u8], from: usize, to: usize, at: usize, letters: &[u8])
+    requires width_bound { W.BITS ≤ 2 }
     requires from_le_to { (from ≤ to) × (to ≤ length buffer.old) × (length buffer.old ≤ 2 ^ 28) }
     requires at_bound { (at ≤ from * per W.BITS) × (to * per W.BITS ≤ at + length letters.now) }
     ensures { Made (λ j. letters_word W.BITS (per W.BITS) letters.now (from * per W.BITS - at + (j - from) * per W.BITS)) from to
@@ -41,6 +42,7 @@ fn fill_few<W: Width>(buffer: &mut [u8], at: usize, letters: &[u8], stop: usize)
 
 // The same for eight letters or more, of bases or flags.
 fn fill_many<W: Width>(buffer: &mut [u8], at: usize, letters: &[u8], stop: usize)
+    requires width_bound { W.BITS ≤ 2 }
     requires letters_len_bound { 8 ≤ length letters.now }
     requires buffer_len_bound { length buffer.old ≤ 2 ^ 28 }
     requires letters_in_bounds { up W.BITS (at + length letters.now) ≤ length buffer.old }
@@ -70,6 +72,8 @@ pub fn fill_letters<W: Width>(buffer: &mut [u8], at: usize, letters: &[u8], stop
 {
     if letters.len() < 8 {
         fill_few::<W>(buffer, at, letters, stop)
+    } else if 2 < W::BITS {
+        fill_few::<W>(buffer, at, letters, stop)
     } else {
         fill_many::<W>(buffer, at, letters, stop)
     }
@@ -87,4 +91,29 @@ pub fn write_letters<W: Width>(buffer: &mut [u8], at: usize, letters: &[u8])
     let stop = chars_in::<W>(used).count();
     fill_letters::<W>(buffer, at, letters, stop);
     zero_run(buffer, last, last + TRAILING);
+}
+
+// Zeros from character `at` to the end of its byte.
+fn clear_rest<W: Width>(buffer: &mut [u8], at: usize)
+    requires { up W.BITS at ≤ length buffer.old }
+    ensures { Made (anew W.BITS buffer.old at [] (up W.BITS at * per W.BITS)) (at / per W.BITS) (up W.BITS at)
+        buffer.old buffer.new }
+{
+    let k = within_byte::<W>(Chars::new(at)).count();
+    if 0 < k {
+        let b = byte_of::<W>(Chars::new(at)).count();
+        join_above::<W>(buffer, b, k, 0)
+    }
+}
+
+// What `write_letters` says of no letters: zeros from character `at` to the end of the 48th byte behind. The byte of `at` is joined with zeros, and
+// not made character by character.
+pub fn write_end<W: Width>(buffer: &mut [u8], at: usize)
+    requires buffer_len_bound { length buffer.old ≤ 2 ^ 28 }
+    requires trailing_in_bounds { up W.BITS at + trailing ≤ length buffer.old }
+    ensures { buffer.new ≡ written W.BITS buffer.old at [] }
+{
+    let from = Chars::new(at).bytes_as::<W>().count();
+    clear_rest::<W>(buffer, at);
+    zero_run(buffer, from, from + TRAILING);
 }

@@ -26,13 +26,13 @@ judged g c =
     let end = ap₂ ◌+◌ c.new-none.ensures c.count-at.ensures ∙ zero-add a.m.0 in
     record { is = c.end_outcome.ensures ∙ ap (λ (x : ℕ). first (too_long m ∷ bad_store g.W.Width.BITS m a.len.0 ∷ bad_end a.len.0 x ∷ [])) end }
 
-pub write_letters-requires : goal.write_letters-requires
-write_letters-requires g c =
+pub write_end-requires : goal.write_end-requires
+write_end-requires g c =
     let n = c.count-at in
-    let p = judged_passed (judged g (goal.at.write_letters-requires g c).After-end_outcome) (was_done c.end_outcome.result _ c.in_ok-map_err.ensures.cases) in
+    let p = judged_passed (judged g (goal.at.write_end-requires g c).After-end_outcome) (was_done c.end_outcome.result _ c.in_ok-map_err.ensures.cases) in
     let sound : up g.W.Width.BITS c.args.len.0 + trailing ≤ length c.args.buffer.now = ltb-false _ _ p.1.0 in
     let within : c.args.m.0 ≤ c.args.len.0 = ltb-false _ _ p.1.1.0 in
-    record { buffer_len_bound = ltb-false _ _ p.0; trailing_in_bounds = omega (arith, up-mono g.W.Width.divides (n.result + 0) c.args.len.0 (omega (arith, n.ensures))) }
+    record { buffer_len_bound = ltb-false _ _ p.0; trailing_in_bounds = omega (arith, up-mono g.W.Width.divides n.result c.args.len.0 (omega (arith, n.ensures))) }
 
 pub returns-in_err-map_err : goal.returns-in_err-map_err
 returns-in_err-map_err g c =
@@ -48,5 +48,5 @@ returns g c =
     let h = judged g (goal.at.returns g c).After-end_outcome in
     let q = was_done c.end_outcome.result _ c.in_ok-map_err.ensures.cases in record {
       says = done_says h q;
-      bytes = c.write_letters.ensures ∙ ap (λ (x : ℕ). written g.W.Width.BITS a.buffer.now x []) c.count-at.ensures ∙ done_after h q;
+      bytes = c.write_end.ensures ∙ ap (λ (x : ℕ). written g.W.Width.BITS a.buffer.now x []) c.count-at.ensures ∙ done_after h q;
     }

@@ -48,6 +48,9 @@ overflow_mul-i g c = let h = view g (goal.at.overflow_mul-i g c).After-BITS-w in
 pub overflow_mul-i-in-loop-i : goal.overflow_mul-i-in-loop-i
 overflow_mul-i-in-loop-i g c = let h = view g (goal.at.overflow_mul-i-in-loop-i g c).After-BITS-w in omega (arith, h.room, h.few)
 
+pub overflow_mul-whole : goal.overflow_mul-whole
+overflow_mul-whole g c = let h = view g (goal.at.overflow_mul-whole g c).After-BITS-w in omega (arith, h.room, h.few)
+
 pub overflow_add-p-2 : goal.overflow_add-p-2
 overflow_add-p-2 g c = let h = view g (goal.at.overflow_add-p-2 g c).After-BITS-w in omega (arith, h.room, h.few)
 

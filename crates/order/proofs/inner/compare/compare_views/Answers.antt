@@ -1,5 +1,6 @@
-use Prim.Native.Nat.{ℕ, ◌+◌, ◌*◌, ◌/◌, ◌%◌, ◌^◌, ◌<◌, min}
-use native.Mathlib.Nat.{mul-div-le, le_of_lt, le-min, min-le_left, min-le_right, min-eq_left, min-eq_right}
+use Prim.Native.Nat.{ℕ, ◌+◌, ◌*◌, ◌/◌, ◌%◌, ◌^◌, ◌≤◌, ◌<◌, min}
+use native.Mathlib.Nat.{mul-div-le, mul-suc, mul_comm, le-mul_of_pos_right, le_of_lt, le-min, min-le_left, min-le_right, min-eq_left, min-eq_right}
+use native.Mathlib.Numerals.{add-one}
 use native.Mathlib.Omega.{arith}
 use lib.Bits.{bit_xor}
 use lib.Count.{count_trailing_zeros}
@@ -7,12 +8,14 @@ use lib.ListN.{length}
 use mathlib.Core.List.{[], ◌∷◌}
 use mathlib.Core.Path.{◌≡◌, sym, ap, ap₂, ◌∙◌, subst}
 use Rattle.codes.proofs.TabLaws.{Below-of}
+use Rattle.codes.proofs.WidthLaws.{width_pos}
 use Rattle.codes.specs.Codes.{chars}
 use Rattle.order.specs.Order.{compare, common}
-use Rattle.order.proofs.CommonLaws.{Two, SameBelow, turn_left, turn_right, passed_all, passed_turn, passed_found, passed_chars, differ_low}
+use Rattle.fields.proofs.LoadLaws.{turn_pos}
+use Rattle.order.proofs.CommonLaws.{Two, SameBelow, turn_left, turn_right, passed_all, passed_turn, passed_found, passed_chars, differ_low, turn_begins, turns_pass}
 use Rattle.order.proofs.OrderLaws.{by_cmp, pair_bits, order_behind, order_ends}
 use Rattle.order.proofs.inner.compare.compare_views.Given.{Over}
-use Rattle.order.proofs.inner.compare.compare_views.Goals.{After-over_width-k, After-over_width-turn, Left-loop-i, Then-z-ne0, else-loop-i-test, then-loop-i-test+else-z-ne0+else-turn-n, then-loop-i-test+then-z-ne0+then-n-common}
+use Rattle.order.proofs.inner.compare.compare_views.Goals.{After-over_width-k, After-over_width-turn, In-loop-t, Left-loop-t, Then-z-ne0, else-loop-t-test, then-loop-t-test+then-z-ne0+then-n-common}
 use Rattle.order.proofs.inner.compare.compare_views.Goals as goal
 
 two : (g : Over) (c : After-over_width-turn g)
@@ -21,15 +24,42 @@ two g c =
     let a = c.args in
     record { width = g.W.Width.divides; bytes = (Below-of 8 a.a.now (λ i. omega (arith, c.shared_slice_known-1.given i)), Below-of 8 a.b.now (λ i. omega (arith, c.shared_slice_known-2-1.given i))); bits = pair_bits g.W.Width.divides (length a.a.now) a.ao a.al (length a.b.now) a.bo a.bl c.requires; least = c.smaller-n.ensures }
 
-pub overflow_mul-w-in-loop-i : goal.overflow_mul-w-in-loop-i
-overflow_mul-w-in-loop-i g c =
-    record { fits = rw c.BITS-w.ensures (omega (arith, (turn_right (two g (goal.at.overflow_mul-w-in-loop-i g c).After-over_width-turn) c.loop-i-test.true).1)) }
+-- a turn holds a character, and one that is taken begins within both views
+some : (g : Over) (c : After-over_width-turn g) → 0 < c.over_width-turn.result
+some g c = omega (arith, c.over_width-turn.ensures, turn_pos g.W.Width.divides)
+
+within : (g : Over) (c : In-loop-t g) → c.over_width-turn.result * c.loop-t.t < c.smaller-n.result
+within g c = turn_begins (some g (goal.at.In-loop-t g c).After-over_width-turn) c.loop-t-test.true
+
+left : (g : Over) (c : In-loop-t g)
+    → let a = c.args in
+    let at = g.W.Width.BITS * (a.ao + c.over_width-turn.result * c.loop-t.t) in
+    (at / 8 + 40 ≤ length a.a.now) × (at < 2 ^ 31)
+left g c = turn_left (two g (goal.at.In-loop-t g c).After-over_width-turn) (within g c)
+
+right : (g : Over) (c : In-loop-t g)
+    → let a = c.args in
+    let at = g.W.Width.BITS * (a.bo + c.over_width-turn.result * c.loop-t.t) in
+    (at / 8 + 40 ≤ length a.b.now) × (at < 2 ^ 31)
+right g c = turn_right (two g (goal.at.In-loop-t g c).After-over_width-turn) (within g c)
+
+pub overflow_mul-w : goal.overflow_mul-w
+overflow_mul-w g c = record { fits = rw c.BITS-w.ensures (omega (arith, (left g c).1)) }
 
 pub peek-x-requires : goal.peek-x-requires
-peek-x-requires g c = rw c.BITS-w.ensures (omega (arith, (turn_left (two g (goal.at.peek-x-requires g c).After-over_width-turn) c.loop-i-test.true).0))
+peek-x-requires g c = rw c.BITS-w.ensures (omega (arith, (left g c).0))
+
+pub overflow_add-bo : goal.overflow_add-bo
+overflow_add-bo g c =
+    let a = c.args in
+    let v = two g (goal.at.overflow_add-bo g c).After-over_width-turn in
+    record { fits = omega (arith, v.bits.1.short, v.least, min-le_right a.al a.bl, within g (goal.at.overflow_add-bo g c).In-loop-t) }
+
+pub overflow_mul-w-in-loop-t : goal.overflow_mul-w-in-loop-t
+overflow_mul-w-in-loop-t g c = record { fits = rw c.BITS-w.ensures (omega (arith, (right g (goal.at.overflow_mul-w-in-loop-t g c).In-loop-t).1)) }
 
 pub peek-y-requires : goal.peek-y-requires
-peek-y-requires g c = rw c.BITS-w.ensures (omega (arith, (turn_right (two g (goal.at.peek-y-requires g c).After-over_width-turn) c.loop-i-test.true).0))
+peek-y-requires g c = rw c.BITS-w.ensures (omega (arith, (right g (goal.at.peek-y-requires g c).In-loop-t).0))
 
 -- the first bits that differ: the character they stand in is within the 56
 module _ (g : Over) (c : Then-z-ne0 g) where
@@ -53,6 +83,13 @@ module _ (g : Over) (c : After-over_width-k g) where
   moved : width g (goal.at.After-over_width-k g c).Then-z-ne0 * there < 56
   moved = subst (λ (k : ℕ). width g (goal.at.After-over_width-k g c).Then-z-ne0 * k < 56) (sym c.over_width-k.ensures) (shift g (goal.at.After-over_width-k g c).Then-z-ne0)
 
+pub overflow_add-common : goal.overflow_add-common
+overflow_add-common g c =
+    let k = there g c in
+    let v = two g (goal.at.overflow_add-common g c).After-over_width-turn in
+    let small = le-mul_of_pos_right k (width_pos g.W.Width.divides) in
+    record { fits = omega (arith, small, mul_comm k g.W.Width.BITS, moved g c, v.bits.0.short, v.least, min-le_left c.args.al c.args.bl, within g (goal.at.overflow_add-common g c).In-loop-t) }
+
 pub overflow_shr-x : goal.overflow_shr-x
 overflow_shr-x g c = rw c.BITS-w.ensures (omega (arith, moved g (goal.at.overflow_shr-x g c).After-over_width-k))
 
@@ -62,51 +99,51 @@ overflow_shr-y g c = rw c.BITS-w.ensures (omega (arith, moved g (goal.at.overflo
 pub returns-then-z-ne0 : goal.returns-then-z-ne0
 returns-then-z-ne0 g c =
     let a = c.args in
-    let l = c.loop-i in
+    let i = c.over_width-turn.result * c.loop-t.t in
     let x = c.peek-x in
     let y = c.peek-y in
     let r = c.over_width-k.ensures in
     let e =
     sym (min-eq_left (le_of_lt c.if-n-common.false))
-    ∙ ap (λ (j : ℕ). min (l.i + j) c.smaller-n.result) r
-    ∙ passed_found (two g (goal.at.returns-then-z-ne0 g c).After-over_width-turn) l.invariant x.result y.result (rw c.BITS-w.ensures at x.ensures) (rw c.BITS-w.ensures at y.ensures) c.if-z-ne0.true in
-    let both = passed_chars (two g (goal.at.returns-then-z-ne0 g c).After-over_width-turn) l.invariant x.result y.result (rw c.BITS-w.ensures at x.ensures) (rw c.BITS-w.ensures at y.ensures) c.if-z-ne0.true in
+    ∙ ap (λ (j : ℕ). min (i + j) c.smaller-n.result) r
+    ∙ passed_found (two g (goal.at.returns-then-z-ne0 g c).After-over_width-turn) c.loop-t.invariant x.result y.result (rw c.BITS-w.ensures at x.ensures) (rw c.BITS-w.ensures at y.ensures) c.if-z-ne0.true in
+    let both = passed_chars (two g (goal.at.returns-then-z-ne0 g c).After-over_width-turn) c.loop-t.invariant x.result y.result (rw c.BITS-w.ensures at x.ensures) (rw c.BITS-w.ensures at y.ensures) c.if-z-ne0.true in
     let at-k : (v : ℕ) → v / 2 ^ (g.W.Width.BITS * there g (goal.at.returns-then-z-ne0 g c).After-over_width-k) % 2 ^ g.W.Width.BITS ≡ v / 2
     ^ (g.W.Width.BITS * (count_trailing_zeros 64 (z g (goal.at.returns-then-z-ne0 g c).Then-z-ne0) / g.W.Width.BITS)) % 2 ^ g.W.Width.BITS = λ v. ap (λ (j : ℕ). v / 2 ^ (g.W.Width.BITS * j) % 2 ^ g.W.Width.BITS) r in
     let decided = ap₂ (λ (m n : ℕ). compare (m ∷ []) (n ∷ [])) ((rw c.BITS-w.ensures at c.low_bits.ensures) ∙ at-k x.result ∙ both.0) ((rw c.BITS-w.ensures at c.low_bits-then-z-ne0.ensures) ∙ at-k y.result ∙ both.1) in
     let few = (two g (goal.at.returns-then-z-ne0 g c).After-over_width-turn).least in
     let behind =
-    order_behind g.W.Width.BITS a.a.now a.ao a.al a.b.now a.bo a.bl _ (sym (ap (λ (j : ℕ). l.i + j) r) ∙ e) (omega (arith, few, min-le_left a.al a.bl, r))
+    order_behind g.W.Width.BITS a.a.now a.ao a.al a.b.now a.bo a.bl _ (sym (ap (λ (j : ℕ). i + j) r) ∙ e) (omega (arith, few, min-le_left a.al a.bl, r))
     (omega (arith, few, min-le_right a.al a.bl, r)) in record { order = by_cmp _ _ _ c.cmp.ensures ∙ decided ∙ sym behind; common = c.new.ensures ∙ e }
 
-pub loop-i-preserved : goal.loop-i-preserved
-loop-i-preserved g c =
+pub loop-t-preserved : goal.loop-t-preserved
+loop-t-preserved g c =
     let a = c.args in
-    subst (λ (n : ℕ). SameBelow g.W.Width.BITS a.a.now a.ao a.b.now a.bo (c.loop-i.i + n)) (sym c.over_width-turn.ensures)
-    (passed_turn (two g (goal.at.loop-i-preserved g c).After-over_width-turn) c.loop-i.invariant c.peek-x.result c.peek-y.result (rw c.BITS-w.ensures at c.peek-x.ensures) (rw c.BITS-w.ensures at c.peek-y.ensures) c.if-z-ne0.false)
+    let i = c.over_width-turn.result * c.loop-t.t in
+    let next : i + 56 / g.W.Width.BITS ≡ c.over_width-turn.result * (c.loop-t.t + 1) =
+    ap (λ (n : ℕ). i + n) (sym c.over_width-turn.ensures) ∙ sym (mul-suc c.over_width-turn.result c.loop-t.t)
+    ∙ ap (λ (n : ℕ). c.over_width-turn.result * n) (sym (add-one c.loop-t.t)) in
+    subst (λ (n : ℕ). SameBelow g.W.Width.BITS a.a.now a.ao a.b.now a.bo n) next
+    (passed_turn (two g (goal.at.loop-t-preserved g c).After-over_width-turn) c.loop-t.invariant c.peek-x.result c.peek-y.result (rw c.BITS-w.ensures at c.peek-x.ensures) (rw c.BITS-w.ensures at c.peek-y.ensures) c.if-z-ne0.false)
 
 -- behind the loop: all that both have is common, whether it was passed or what differs lies beyond
-ended : (g : Over) (c : Left-loop-i g)
+ended : (g : Over) (c : Left-loop-t g)
     → let v = c in
     let a = v.args in
     v.smaller-n.result ≡ common (chars g.W.Width.BITS a.a.now a.ao a.al) (chars g.W.Width.BITS a.b.now a.bo a.bl)
 ended g c =
-    let v = two g (goal.at.Left-loop-i g c).After-over_width-turn in
-    let i = c.loop-i.invariant in
-    elim c.loop-i-test.branch [
-      | else-loop-i-test w ↦ passed_all v i w.loop-i-test.false
-      | then-loop-i-test+else-z-ne0+else-turn-n w ↦
-          passed_all v
-          (passed_turn v i w.peek-x.result w.peek-y.result (rw c.BITS-w.ensures at w.peek-x.ensures) (rw c.BITS-w.ensures at w.peek-y.ensures) w.if-z-ne0.false)
-          (omega (arith, c.over_width-turn.ensures))
-      | then-loop-i-test+then-z-ne0+then-n-common w ↦
+    let v = two g (goal.at.Left-loop-t g c).After-over_width-turn in
+    let i = c.loop-t.invariant in
+    elim c.loop-t-test.branch [
+      | else-loop-t-test w ↦ passed_all v i (turns_pass (some g (goal.at.Left-loop-t g c).After-over_width-turn) w.loop-t-test.false)
+      | then-loop-t-test+then-z-ne0+then-n-common w ↦
           sym (min-eq_right w.if-n-common.true)
-          ∙ ap (λ (j : ℕ). min (c.loop-i.i + j) c.smaller-n.result) w.over_width-k.ensures
+          ∙ ap (λ (j : ℕ). min (c.over_width-turn.result * c.loop-t.t + j) c.smaller-n.result) w.over_width-k.ensures
           ∙ passed_found v i w.peek-x.result w.peek-y.result (rw c.BITS-w.ensures at w.peek-x.ensures) (rw c.BITS-w.ensures at w.peek-y.ensures) w.if-z-ne0.true
     ]
 
 pub returns : goal.returns
 returns g c =
     let a = c.args in
-    let ends = order_ends g.W.Width.BITS a.a.now a.ao a.al a.b.now a.bo a.bl _ (ended g (goal.at.returns g c).Left-loop-i)
-    (λ h l. omega (arith, (two g (goal.at.returns g c).After-over_width-turn).least, le-min h l)) in record { order = by_cmp _ _ _ c.cmp-2.ensures ∙ sym ends; common = c.new-2.ensures ∙ ended g (goal.at.returns g c).Left-loop-i }
+    let ends = order_ends g.W.Width.BITS a.a.now a.ao a.al a.b.now a.bo a.bl _ (ended g (goal.at.returns g c).Left-loop-t)
+    (λ h l. omega (arith, (two g (goal.at.returns g c).After-over_width-turn).least, le-min h l)) in record { order = by_cmp _ _ _ c.cmp-2.ensures ∙ sym ends; common = c.new-2.ensures ∙ ended g (goal.at.returns g c).Left-loop-t }

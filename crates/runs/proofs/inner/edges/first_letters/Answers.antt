@@ -8,13 +8,13 @@ use Rattle.runs.proofs.JoinLaws.{bits_fit}
 use Rattle.runs.proofs.inner.edges.first_letters.Goals as goal
 
 pub whole_byte-requires : goal.whole_byte-requires
-whole_byte-requires g c = omega (arith, c.requires)
+whole_byte-requires g c = (c.requires.0, omega (arith, c.requires))
 
 pub overflow_mul-result : goal.overflow_mul-result
-overflow_mul-result g c = rw c.BITS.ensures (omega (arith, bits_fit g.W.Width.divides c.args.k c.requires.1))
+overflow_mul-result g c = rw c.BITS.ensures (omega (arith, bits_fit g.W.Width.divides c.args.k c.requires.2))
 
 pub overflow_shl-result : goal.overflow_shl-result
-overflow_shl-result g c = rw c.BITS.ensures (omega (arith, bits_fit g.W.Width.divides c.args.k c.requires.1))
+overflow_shl-result g c = rw c.BITS.ensures (omega (arith, bits_fit g.W.Width.divides c.args.k c.requires.2))
 
 pub returns : goal.returns
 returns g c =

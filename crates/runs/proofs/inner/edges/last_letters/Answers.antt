@@ -23,10 +23,10 @@ pub overflow_sub-letters : goal.overflow_sub-letters
 overflow_sub-letters g c = omega (arith, count_is g c, c.requires)
 
 pub whole_byte-requires : goal.whole_byte-requires
-whole_byte-requires g c = omega (arith, count_is g c, c.requires)
+whole_byte-requires g c = (c.requires.0, omega (arith, count_is g c, c.requires))
 
 pub overflow_sub-result : goal.overflow_sub-result
-overflow_sub-result g c = omega (arith, count_is g (goal.at.overflow_sub-result g c).After-count-c, c.requires.1)
+overflow_sub-result g c = omega (arith, count_is g (goal.at.overflow_sub-result g c).After-count-c, c.requires.2)
 
 pub overflow_mul-result : goal.overflow_mul-result
 overflow_mul-result g c = rw c.BITS.ensures (omega (arith, shift g (goal.at.overflow_mul-result g c).After-count-c))

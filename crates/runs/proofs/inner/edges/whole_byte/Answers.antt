@@ -13,13 +13,13 @@ use Rattle.runs.proofs.inner.edges.whole_byte.Goals as goal
 -- at a width that is known
 module _ (g : Over) (s : Start g) {v : ℕ} (known : g.W.Width.BITS ≡ v) where
   room : s.args.i + per v ≤ length s.args.letters.now
-  room = subst (λ (x : ℕ). s.args.i + per x ≤ length s.args.letters.now) known s.requires
+  room = subst (λ (x : ℕ). s.args.i + per x ≤ length s.args.letters.now) known s.requires.1
 
   byte : letters_word v (per v) s.args.letters.now s.args.i ≡ letters_word g.W.Width.BITS (per g.W.Width.BITS) s.args.letters.now s.args.i
   byte = ap (λ (x : ℕ). letters_word x (per x) s.args.letters.now s.args.i) (sym known)
 
 flags_width : (g : Over) (c : Else-BITS-eq2 g) → g.W.Width.BITS ≡ 1
-flags_width g c = omega (arith, c.BITS.ensures, c.if-BITS-eq2.false, width_pos g.W.Width.divides, g.W.Width.narrow)
+flags_width g c = omega (arith, c.BITS.ensures, c.if-BITS-eq2.false, width_pos g.W.Width.divides, c.requires.0)
 
 pub bases4-requires : goal.bases4-requires
 bases4-requires g c = room g (goal.at.bases4-requires g c).Start (sym c.BITS.ensures ∙ c.if-BITS-eq2.true)

@@ -1,6 +1,6 @@
 use mathlib.Core.List.{List}
-use mathlib.Core.Path.{◌≡◌, sym, subst}
-use Prim.Native.Nat.{ℕ, ◌+◌, ◌-◌, ◌*◌, ◌/◌, ◌%◌, ◌^◌, ◌≤◌, ◌<◌}
+use mathlib.Core.Path.{◌≡◌, refl, sym, ap, ◌∙◌, subst}
+use Prim.Native.Nat.{ℕ, ◌+◌, ◌-◌, ◌*◌, ◌/◌, ◌%◌, ◌^◌, ◌≤◌}
 use native.Mathlib.Nat.{le_refl}
 use native.Mathlib.Omega.{arith}
 use lib.Seq.{sets}
@@ -9,35 +9,32 @@ use Rattle.codes.specs.Words.{word, chars_of}
 use Rattle.codes.proofs.MadeLaws.{made-to}
 use Rattle.runs.proofs.CopyLaws.{made_word}
 use Rattle.runs.proofs.inner.seqs.copy_words.Invariants.{over}
-use Rattle.runs.proofs.inner.seqs.copy_words.Goals.{At-loop-j, else-loop-j-test, then-loop-j-test+else-j-end-j-gt8}
+use Rattle.runs.proofs.inner.seqs.copy_words.Goals.{At-loop-k}
 use Rattle.runs.proofs.inner.seqs.copy_words.Goals as goal
 
 -- a word copied to `at`, over the end of the bytes that are copied up to `mid`
-module _ (c : At-loop-j) where
-  abbrev Copied : ℕ → List ℕ → Type 0
-  Copied = λ to e. Made (over c.args.view.now c.args.lead c.args.from) c.args.from to c.args.buffer.now e
+more : (c : At-loop-k) (mid at p x : ℕ) {d e : List ℕ}
+    → let a = c.args in
+    let view = a.view.now in
+    Made (over view a.lead a.from) a.from mid a.buffer.now d → a.from ≤ at → at ≤ mid → mid ≤ at + 8 → at + 8 ≤ a.to → p ≡ a.lead + (at - a.from)
+    → x ≡ word 8 view / 2 ^ (8 * p) % 2 ^ 64 → e ≡ sets d at (chars_of 8 8 x) → Made (over view a.lead a.from) a.from (at + 8) a.buffer.now e
+more c mid at p x z f l m t s q r =
+    let a = c.args in
+    let view = a.view.now in
+    subst (λ (e : List ℕ). Made (over view a.lead a.from) a.from (at + 8) a.buffer.now e) (sym r)
+    (made_word view (λ j. (c.type_inv.view j).fits) a.from a.lead mid at x z f l m (omega arith) (q ∙ ap (λ (j : ℕ). word 8 view / 2 ^ (8 * j) % 2 ^ 64) s))
 
-  more : (mid at x : ℕ) {d e : List ℕ} → Copied mid d → c.args.from ≤ at → at ≤ mid → mid ≤ at + 8 → at + 8 ≤ c.args.to
-      → x ≡ word 8 c.args.view.now / 2 ^ (8 * (c.args.lead + (at - c.args.from))) % 2 ^ 64 → e ≡ sets d at (chars_of 8 8 x) → Copied (at + 8) e
-  more mid at x z f l m t q s =
-      let a = c.args in
-      subst (Copied (at + 8)) (sym s) (made_word a.view.now (λ j. (c.shared_slice_known-1.given j).fits) a.from a.lead mid at x z f l m (omega arith) q)
-
-pub loop-j-preserved : goal.loop-j-preserved
-loop-j-preserved c =
-    let j = c.loop-j.j in
-    (omega arith, more (goal.at.loop-j-preserved c).At-loop-j j j c.load64.result c.loop-j.invariant.1 (omega arith) (le_refl j) (omega arith) (omega arith) c.load64.ensures c.store64.ensures)
+pub loop-k-preserved : goal.loop-k-preserved
+loop-k-preserved c =
+    let at = c.args.from + 8 * c.loop-k.k in
+    made-to
+    (more (goal.at.loop-k-preserved c).At-loop-k at at (c.args.lead + 8 * c.loop-k.k) c.load64.result c.loop-k.invariant (omega arith) (le_refl at) (omega arith) (omega arith) (omega arith)
+    c.load64.ensures c.store64.ensures)
+    (omega arith)
 
 pub returns : goal.returns
 returns c =
-    let l = c.loop-j in
-    let e = (goal.at.returns c).At-loop-j in
-    let last : (mid : ℕ) → Copied e mid c.loop-j-test.buffer → c.args.to - 8 ≤ mid → mid ≤ c.args.to → Copied e c.args.to c.store64-2.new.out =
-    λ mid z m t. made-to (more e mid (c.args.to - 8) c.load64-2.result z (omega arith) m (omega arith) (omega arith) c.load64-2.ensures c.store64-2.ensures) (omega arith) in
-    elim c.loop-j-test.branch [
-      | else-loop-j-test w ↦ last l.j (subst (Copied e l.j) (sym w.buffer-is) l.invariant.1) (omega arith) (omega arith)
-      | then-loop-j-test+else-j-end-j-gt8 w ↦
-          last (l.j + 8)
-          (subst (Copied e (l.j + 8)) (sym w.buffer-is) (more e l.j l.j w.load64.result l.invariant.1 (omega arith) (le_refl l.j) (omega arith) (omega arith) w.load64.ensures w.store64.ensures))
-          (omega arith) (omega arith)
-    ]
+    made-to
+    (more (goal.at.returns c).At-loop-k (c.args.from + 8 * c.loop-k.k) (c.args.to - 8) _ c.load64-2.result c.loop-k.invariant (omega arith) (omega arith) (omega arith) (omega arith) refl
+    c.load64-2.ensures c.store64-2.ensures)
+    (omega arith)

@@ -1,6 +1,6 @@
--- The invariant: the bytes up to j are copied. Assumes nothing.
+-- The invariant: k words are copied. Assumes nothing.
 use mathlib.Core.List.{List}
-use Prim.Native.Nat.{ℕ, ◌+◌, ◌-◌, ◌≤◌}
+use Prim.Native.Nat.{ℕ, ◌+◌, ◌-◌, ◌*◌}
 use lib.ListN.{get_or}
 use Rattle.codes.specs.Made.{Made}
 use Rattle.runs.proofs.inner.seqs.copy_words.Given as goal
@@ -9,8 +9,5 @@ use Rattle.runs.proofs.inner.seqs.copy_words.Given as goal
 abbrev pub over : List ℕ → ℕ → ℕ → ℕ → ℕ
 over view lead from j = get_or view (lead + (j - from)) 0
 
-abbrev pub invariant-loop-j : goal.invariant-loop-j
-invariant-loop-j l = (l.j ≤ l.to - 8) × Made (over l.view l.lead l.from) l.from l.j l.initial.buffer l.buffer
-
-abbrev pub decreases-loop-j : goal.decreases-loop-j
-decreases-loop-j l = l.to - l.j
+abbrev pub invariant-loop-k : goal.invariant-loop-k
+invariant-loop-k l = Made (over l.view l.lead l.from) l.from (l.from + 8 * l.k) l.initial.buffer l.buffer

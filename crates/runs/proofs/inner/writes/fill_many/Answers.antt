@@ -117,6 +117,7 @@ starts_is g c =
 
 pub first_letters-requires : goal.first_letters-requires
 first_letters-requires g c = (
+  (s g (goal.at.first_letters-requires g c).After-count-r).requires.width_bound,
   omega (arith, eight g (goal.at.first_letters-requires g c).After-count-r, per-le (W g (goal.at.first_letters-requires g c).After-count-r)),
   few g (goal.at.first_letters-requires g c).After-count-r,
 )
@@ -139,6 +140,7 @@ overflow_add-b g c =
 pub whole_run-requires : goal.whole_run-requires
 whole_run-requires g c =
     let e = c.join_above.ensures.long in record {
+      width_bound = (s g (goal.at.whole_run-requires g c).After-count-r).requires.width_bound;
       from_le_to = (
         next g (goal.at.whole_run-requires g c).After-count-r,
         omega (arith, to_last g (goal.at.whole_run-requires g c).After-count-r, room g (goal.at.whole_run-requires g c).After-count-r),
@@ -157,7 +159,7 @@ overflow_sub-rest g c = let k = o g (goal.at.overflow_sub-rest g c).After-whole_
 pub last_letters-requires : goal.last_letters-requires
 last_letters-requires g c =
     let k = o g (goal.at.last_letters-requires g c).After-whole_run in
-    (omega (arith, eight g k, per-le (W g k)), omega (arith, r_is g k, mod-lt (end g k) (per_pos (W g k))))
+    ((s g k).requires.width_bound, omega (arith, eight g k, per-le (W g k)), omega (arith, r_is g k, mod-lt (end g k) (per_pos (W g k))))
 
 pub join_below-requires : goal.join_below-requires
 join_below-requires g c =

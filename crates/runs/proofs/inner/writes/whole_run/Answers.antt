@@ -34,7 +34,7 @@ module _ (g : Over) (s : Start g) {v : ℕ} (known : g.W.Width.BITS ≡ v) where
 
 -- a width that is not that of bases
 flags_width : (g : Over) (c : Else-BITS-eq2 g) → g.W.Width.BITS ≡ 1
-flags_width g c = omega (arith, c.BITS.ensures, c.if-BITS-eq2.false, width_pos g.W.Width.divides, g.W.Width.narrow)
+flags_width g c = omega (arith, c.BITS.ensures, c.if-BITS-eq2.false, width_pos g.W.Width.divides, c.requires.width_bound)
 
 pub overflow_sub-from : goal.overflow_sub-from
 overflow_sub-from g c = starts g (goal.at.overflow_sub-from g c).Start (sym c.BITS.ensures ∙ c.if-BITS-eq2.true)

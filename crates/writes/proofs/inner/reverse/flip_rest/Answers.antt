@@ -21,5 +21,5 @@ returns-then-BITS-eq2 g c =
 pub returns-else-BITS-eq2 : goal.returns-else-BITS-eq2
 returns-else-BITS-eq2 g c =
     let a = c.args in
-    let one : 1 ≡ g.W.Width.BITS = omega (arith, c.BITS.ensures, width_pos g.W.Width.divides, g.W.Width.narrow) in
+    let one : 1 ≡ g.W.Width.BITS = omega (arith, c.BITS.ensures, width_pos g.W.Width.divides, g.met.W.Reverses.narrow) in
     by_table g.W.Width.divides (c.flag_flips-table.ensures ∙ ap flips one) (word 8 a.bytes.now / 2 ^ a.p) a.bits c.requires.bits_value (omega arith) c.flip_bytes-else-BITS-eq2.ensures
