@@ -4,7 +4,7 @@
 use mathlib.Core.List.{List}
 use mathlib.Core.Path.{◌≡◌, refl, sym, ap, ap₂, ◌∙◌, subst}
 use Prim.Native.Nat.{ℕ, zero, suc, ◌+◌, ◌-◌, ◌*◌, ◌/◌, ◌%◌, ◌^◌, ◌≤◌, ◌<◌, min}
-use native.Mathlib.Nat.{add_comm, add_assoc, add-sub_of_le, mul-add, mul-suc, mul_comm, mul-le-mul_left, mul-le-mul_right, div-one, mod-one, zero-div, zero-mod, mul-div-le, lt-div-mul-add}
+use native.Mathlib.Nat.{add_comm, add_assoc, add-sub_of_le, mul-add, mul-suc, mul_assoc, mul_comm, mul-le-mul_left, mul-le-mul_right, div-one, mod-one, zero-div, zero-mod, mul-div-le, lt-div-mul-add}
 use native.Mathlib.Nat.{le_of_suc-le-suc, lt_of_lt_of_le, lt_of_le_of_lt, lt_trans, le_of_lt, le_trans, lt_of_mul-lt-mul_left, min-le_left, min-le_right, le-min, min-eq_left, min-eq_right}
 use native.Mathlib.Numerals.{add-one}
 use native.Mathlib.Omega.{arith}
@@ -173,6 +173,12 @@ module _ {n k t : ℕ} (some : 0 < k) where
   turns_pass l =
       let over : n + (k - 1) < (n + (k - 1)) / k * k + k = lt-div-mul-add some in
       omega (arith, over, mul-le-mul_right k l, mul_comm t k, some)
+
+-- the bits of t turns are those of their characters
+pub turn_bits : {w k : ℕ} → IsWidth w → k ≡ 56 / w → (o t : ℕ) → w * o + 56 * t ≡ w * (o + k * t)
+turn_bits {w} {k} W e o t =
+    let turn : w * k ≡ 56 = ap (λ (n : ℕ). w * n) e ∙ whole W 7 in
+    ap (λ (n : ℕ). w * o + n * t) (sym turn) ∙ ap (λ (n : ℕ). w * o + n) (mul_assoc w k t) ∙ sym (mul-add w o (k * t))
 
 -- two views, and the n places that both have
 pub record Two (w : ℕ) (s : List ℕ) (o al : ℕ) (t : List ℕ) (o' bl n : ℕ) : Type 0 where

@@ -50,10 +50,7 @@ pub fn zero_run(buffer: &mut [u8], from: usize, to: usize)
     requires { (from ≤ to) × (to ≤ length buffer.old) }
     ensures { Made (λ j. 0) from to buffer.old buffer.new }
 {
-    // Not by `fill`, which sets all but the last and then the last: of 48 bytes it makes a call.
-    for byte in buffer[from..to].iter_mut() {
-        *byte = 0;
-    }
+    buffer[from..to].fill(0);
 }
 
 // Copies bytes to the front of a buffer.

@@ -36,12 +36,20 @@ pub fn load64(bytes: &[u8], at: usize) -> u64
     load32(bytes, at) + load32(bytes, at + 4) * 0x1_0000_0000
 }
 
+// 56 bits or more from bit s of the byte at `at` on.
+pub fn peek_at(bytes: &[u8], at: usize, s: usize) -> u64
+    requires { (s < 8) × (at + 8 ≤ length bytes.now) }
+    ensures { result % 2 ^ 56 ≡ word 8 bytes.now / 2 ^ (8 * at + s) % 2 ^ 56 }
+{
+    load64(bytes, at) >> s
+}
+
 // 56 bits or more from bit p on.
 pub fn peek(bytes: &[u8], p: usize) -> u64
     requires { p / 8 + 8 ≤ length bytes.now }
     ensures { result % 2 ^ 56 ≡ word 8 bytes.now / 2 ^ p % 2 ^ 56 }
 {
-    load64(bytes, p / 8) >> (p % 8)
+    peek_at(bytes, p / 8, p % 8)
 }
 
 // The 64 bits from bit s of the byte at `at` on.

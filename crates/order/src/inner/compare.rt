@@ -8,7 +8,7 @@ use codes::inner::bits::{low_bits, smaller};
 use codes::inner::counts::over_width;
 use codes::units::Chars;
 use codes::widths::Width;
-use fields::inner::loads::peek;
+use fields::inner::loads::peek_at;
 
 // Views that are not refused, 56 bits a turn up to the first that differ. The character that they stand in decides; where there is none, the
 // lengths do.
@@ -27,14 +27,15 @@ pub(crate) fn compare_views<W: Width>(
     let w = W::BITS;
     let n = smaller(al, bl);
     let turn = over_width::<W>(56);
+    let p = w * ao;
+    let q = w * bo;
     for t in 0..(n + (turn - 1)) / turn {
-        let i = turn * t;
-        let x = peek(a, w * (ao + i));
-        let y = peek(b, w * (bo + i));
+        let x = peek_at(a, p / 8 + 7 * t, p % 8);
+        let y = peek_at(b, q / 8 + 7 * t, q % 8);
         let z = x ^ y;
         if z % 0x100_0000_0000_0000 != 0 {
             let k = over_width::<W>(u64::trailing_zeros(z) as usize);
-            let common = i + k;
+            let common = turn * t + k;
             if n <= common {
                 break;
             }

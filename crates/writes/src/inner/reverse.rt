@@ -75,7 +75,7 @@ fn flip_rest<W: Reverses>(bytes: &[u8], p: usize, bits: usize, out: &mut [u8])
         return;
     }
     let from = bits / 64 * 8;
-    // Known when this is compiled; a trait of its own over `Width` would be one bound more on each function above.
+    // Which of the two is known when this is compiled.
     if W::BITS == 2 {
         let table = base_flips();
         flip_bytes(&table, bytes, p, bits, from, out);

@@ -1,17 +1,11 @@
--- Eight bytes, shifted down by less than a byte. Assumes nothing.
+-- A place of bits is its byte and the rest. Assumes nothing.
 use mathlib.Core.Path.{◌≡◌, ap, ◌∙◌}
 use Prim.Native.Nat.{ℕ, ◌+◌, ◌*◌, ◌/◌, ◌%◌, ◌^◌}
 use native.Mathlib.Omega.{arith}
-use lib.Pow.{shr-shr}
 use Rattle.codes.specs.Words.{word}
-use Rattle.codes.proofs.FieldLaws.{field_of}
 use Rattle.fields.proofs.inner.loads.peek.Goals as goal
 
 pub returns : goal.returns
 returns c =
     let a = c.args in
-    let n = word 8 a.bytes.now in
-    let split : 8 * (a.p / 8) + a.p % 8 ≡ a.p = omega arith in
-    ap (λ (x : ℕ). x / 2 ^ (a.p % 8) % 2 ^ 56) c.load64.ensures
-    ∙ field_of (n / 2 ^ (8 * (a.p / 8))) (a.p % 8) 56 64 (omega arith)
-    ∙ ap (λ (x : ℕ). x % 2 ^ 56) (shr-shr n (8 * (a.p / 8)) (a.p % 8) ∙ ap (λ (k : ℕ). n / 2 ^ k) split)
+    let split : 8 * (a.p / 8) + a.p % 8 ≡ a.p = omega arith in c.peek_at.ensures ∙ ap (λ (k : ℕ). word 8 a.bytes.now / 2 ^ k % 2 ^ 56) split
