@@ -10,8 +10,8 @@ use codes::units::Chars;
 use codes::widths::Width;
 use fields::inner::loads::peek_at;
 
-// Views that are not refused, 56 bits a turn up to the first that differ. The character that they stand in decides; where there is none, the
-// lengths do.
+// Views that are not refused, 56 bits a turn, which are 7 bytes, up to the first that differ. The character that they stand in decides; where
+// there is none, the lengths do.
 pub(crate) fn compare_views<W: Width>(
     a: &[u8],
     ao: usize,

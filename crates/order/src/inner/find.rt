@@ -9,7 +9,8 @@ use codes::widths::Width;
 use fields::inner::loads::peek;
 
 // The search itself: where the pattern's first bits are not there, or less than the pattern is common, on to the next place; a whole match
-// ends it. At most places the first bits, which are loaded once, decide.
+// ends it. At most places the first bits, which are loaded once, decide. Within its callers the walk would take more at each place.
+#[inline(never)]
 pub(crate) fn find_at<W: Width>(
     t: &[u8],
     to: usize,

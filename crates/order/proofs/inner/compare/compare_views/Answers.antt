@@ -37,9 +37,9 @@ module _ (g : Over) (c : After-over_width-turn g) (o t : ℕ) where
   place : 8 * (g.W.Width.BITS * o / 8 + 7 * t) + g.W.Width.BITS * o % 8 ≡ g.W.Width.BITS * (o + c.over_width-turn.result * t)
   place = omega (arith, turn_bits g.W.Width.divides c.over_width-turn.ensures o t)
 
-  read : (s : List ℕ) (x : ℕ) → x % 2 ^ 56 ≡ word 8 s / 2 ^ (8 * (g.W.Width.BITS * o / 8 + 7 * t) + g.W.Width.BITS * o % 8) % 2 ^ 56
+  read : (s : List ℕ) (x : ℕ) → x % 2 ^ 56 ≡ word 8 s / 2 ^ (8 * (c.BITS-w.result * o / 8 + 7 * t) + c.BITS-w.result * o % 8) % 2 ^ 56
       → x % 2 ^ 56 ≡ word 8 s / 2 ^ (g.W.Width.BITS * (o + c.over_width-turn.result * t)) % 2 ^ 56
-  read s x = subst (λ (p : ℕ). x % 2 ^ 56 ≡ word 8 s / 2 ^ p % 2 ^ 56) place
+  read s x e = subst (λ (p : ℕ). x % 2 ^ 56 ≡ word 8 s / 2 ^ p % 2 ^ 56) place (rw c.BITS-w.ensures at e)
 
 -- its byte is within the view's bytes
 module _ (g : Over) (c : In-loop-t g) where
@@ -116,8 +116,8 @@ returns-then-z-ne0 g c =
     let y = c.peek_at-y in
     let r = c.over_width-k.ensures in
     let d = (goal.at.returns-then-z-ne0 g c).After-over_width-turn in
-    let ex = read g d a.ao c.loop-t.t _ _ (rw c.BITS-w.ensures at x.ensures) in
-    let ey = read g d a.bo c.loop-t.t _ _ (rw c.BITS-w.ensures at y.ensures) in
+    let ex = read g d a.ao c.loop-t.t _ _ x.ensures in
+    let ey = read g d a.bo c.loop-t.t _ _ y.ensures in
     let e =
     sym (min-eq_left (le_of_lt c.if-n-common.false))
     ∙ ap (λ (j : ℕ). min (i + j) c.smaller-n.result) r
@@ -140,8 +140,8 @@ loop-t-preserved g c =
     ∙ ap (λ (n : ℕ). c.over_width-turn.result * n) (sym (add-one c.loop-t.t)) in
     let d = (goal.at.loop-t-preserved g c).After-over_width-turn in
     subst (λ (n : ℕ). SameBelow g.W.Width.BITS a.a.now a.ao a.b.now a.bo n) next
-    (passed_turn (two g d) c.loop-t.invariant c.peek_at-x.result c.peek_at-y.result (read g d a.ao c.loop-t.t _ _ (rw c.BITS-w.ensures at c.peek_at-x.ensures))
-    (read g d a.bo c.loop-t.t _ _ (rw c.BITS-w.ensures at c.peek_at-y.ensures)) c.if-z-ne0.false)
+    (passed_turn (two g d) c.loop-t.invariant c.peek_at-x.result c.peek_at-y.result (read g d a.ao c.loop-t.t _ _ c.peek_at-x.ensures)
+    (read g d a.bo c.loop-t.t _ _ c.peek_at-y.ensures) c.if-z-ne0.false)
 
 -- behind the loop: all that both have is common, whether it was passed or what differs lies beyond
 ended : (g : Over) (c : Left-loop-t g)
@@ -157,8 +157,8 @@ ended g c =
       | then-loop-t-test+then-z-ne0+then-n-common w ↦
           sym (min-eq_right w.if-n-common.true)
           ∙ ap (λ (j : ℕ). min (c.over_width-turn.result * c.loop-t.t + j) c.smaller-n.result) w.over_width-k.ensures
-          ∙ passed_found v i w.peek_at-x.result w.peek_at-y.result (read g d c.args.ao c.loop-t.t _ _ (rw c.BITS-w.ensures at w.peek_at-x.ensures))
-          (read g d c.args.bo c.loop-t.t _ _ (rw c.BITS-w.ensures at w.peek_at-y.ensures)) w.if-z-ne0.true
+          ∙ passed_found v i w.peek_at-x.result w.peek_at-y.result (read g d c.args.ao c.loop-t.t _ _ w.peek_at-x.ensures)
+          (read g d c.args.bo c.loop-t.t _ _ w.peek_at-y.ensures) w.if-z-ne0.true
     ]
 
 pub returns : goal.returns
