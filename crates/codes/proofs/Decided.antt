@@ -7,8 +7,7 @@ use denote.RattleType.{RattleType}
 use mir.Syntax.{Dict}
 use Rattle.codes.specs.declared.units.Chars.{Chars}
 use Rattle.codes.specs.declared.units.Bytes.{Bytes}
-use Rattle.codes.specs.declared.widths.Reverses
-use Rattle.codes.specs.declared.widths.Width
+use Rattle.codes.specs.declared.widths.Width.{Ghosts}
 use Rattle.codes.proofs.AnswerLaws.{told, word128_told}
 use Rattle.codes.proofs.Permitted.{Decided, Once, skip}
 use Rattle.codes.proofs.RefusalLaws.{says-once}
@@ -106,14 +105,12 @@ unpack_kmer_u128_decided κs a x y v w p q =
     λ i. (says i, skip 3 (out i, tt))
 
 -- at every width W
-module _ (T : RattleType) (L : Laws T) (W : Width.Ghosts T.Denot) (D : Dict) where
+module _ (T : RattleType) (L : Laws T) (W : Ghosts T.Denot) (D : Dict) where
   pub chars_bytes_as_decided : Decided 1 (chars-bytes-as·kinds.ps T L) (chars-bytes-as·kinds.r T L) (chars-bytes-as.Post T L W D)
   chars_bytes_as_decided κs a x y s t p q = ap (λ (m : ℕ). let c : Bytes = record { 0 = m } in c) (p ∙ sym q)
 
--- at every width W that is reversed
-module _ (T : RattleType) (L : Laws T) (R : Reverses.Ghosts T.Denot) (E : Dict) (W : Width.Ghosts T.Denot) (D : Dict) where
-  pub rev_u64_decided : Decided 1 (rev-u64·kinds.ps T L) (rev-u64·kinds.r T L) (rev-u64.Post T L R E W D)
+  pub rev_u64_decided : Decided 1 (rev-u64·kinds.ps T L) (rev-u64·kinds.r T L) (rev-u64.Post T L W D)
   rev_u64_decided κs a x y s t p q = says-once told x y (p ∙ sym q)
 
-  pub rev_u128_decided : Decided 1 (rev-u128·kinds.ps T L) (rev-u128·kinds.r T L) (rev-u128.Post T L R E W D)
+  pub rev_u128_decided : Decided 1 (rev-u128·kinds.ps T L) (rev-u128·kinds.r T L) (rev-u128.Post T L W D)
   rev_u128_decided κs a x y s t p q = says-once word128_told x y (p ∙ sym q)

@@ -4,8 +4,7 @@ use denote.Param.Laws.{Laws}
 use denote.RattleType.{RattleType}
 use mir.Syntax.{Dict}
 use Rattle.codes.specs.Answers.{says, word128_says}
-use Rattle.codes.specs.declared.widths.Reverses
-use Rattle.codes.specs.declared.widths.Width
+use Rattle.codes.specs.declared.widths.Width.{Ghosts}
 use Rattle.codes.proofs.Permitted.{Refuses, skip}
 use Rattle.codes.proofs.RefusalLaws.{outcome_says, refused_keeps}
 use Rattle.codes.proofs.letters.pack_char.Kinds as pack-char·kinds
@@ -53,10 +52,10 @@ unpack_kmer_refused κs a x v p h = let e = simp refused_keeps at p.1 in λ i. (
 pub unpack_kmer_u128_refused : Refuses 1 unpack-kmer-u128·kinds.ps unpack-kmer-u128·kinds.r unpack-kmer-u128.Post (λ κs. outcome_says) (λ κs a. (tt, skip 3 (a.1.1.1.0.now, tt)))
 unpack_kmer_u128_refused κs a x v p h = let e = simp refused_keeps at p.1 in λ i. (tt, skip 3 (e i, tt))
 
--- at every width W that is reversed
-module _ (T : RattleType) (L : Laws T) (R : Reverses.Ghosts T.Denot) (E : Dict) (W : Width.Ghosts T.Denot) (D : Dict) where
-  pub rev_u64_refused : Refuses 1 (rev-u64·kinds.ps T L) (rev-u64·kinds.r T L) (rev-u64.Post T L R E W D) (λ κs. says) (λ κs a. (0, skip 2 tt))
+-- at every width W
+module _ (T : RattleType) (L : Laws T) (W : Ghosts T.Denot) (D : Dict) where
+  pub rev_u64_refused : Refuses 1 (rev-u64·kinds.ps T L) (rev-u64·kinds.r T L) (rev-u64.Post T L W D) (λ κs. says) (λ κs a. (0, skip 2 tt))
   rev_u64_refused κs a x v p h = let n = rw p at h in rw (p, refused_keeps)
 
-  pub rev_u128_refused : Refuses 1 (rev-u128·kinds.ps T L) (rev-u128·kinds.r T L) (rev-u128.Post T L R E W D) (λ κs. word128_says) (λ κs a. ((0, 0), skip 3 tt))
+  pub rev_u128_refused : Refuses 1 (rev-u128·kinds.ps T L) (rev-u128·kinds.r T L) (rev-u128.Post T L W D) (λ κs. word128_says) (λ κs a. ((0, 0), skip 3 tt))
   rev_u128_refused κs a x v p h = let n = rw p at h in rw (p, refused_keeps)

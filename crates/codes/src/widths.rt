@@ -4,6 +4,7 @@ ghost use Rattle.codes.specs.Codes.{IsWidth, code, complement};
 ghost use Rattle.codes.specs.Widths.{width_1, width_2, narrow_1, narrow_2};
 ghost use Rattle.codes.specs.Words.{flip};
 
+use crate::inner::flips;
 use crate::inner::flips::{flip_bases, flip_flags};
 use crate::letters::{char_is_ambiguous, pack_char_lossy};
 
@@ -17,14 +18,23 @@ pub trait Width {
     // What a letter is.
     fn code_of(letter: u8) -> u8
         ensures { result ≡ code BITS letter };
-}
 
-// A width whose characters can be reversed: two bits at most.
-pub trait Reverses: Width {
     // All characters of x in reverse, bases complemented.
     fn flip_word(x: u64) -> u64
-        ensures { result ≡ flip Self.BITS (complement Self.BITS) (64 / Self.BITS) x };
+        ensures { result ≡ flip BITS (complement BITS) (64 / BITS) x }
+    {
+        if Self::BITS == 2 {
+            flips::flip_bases(x)
+        } else if Self::BITS == 1 {
+            flips::flip_flags(x)
+        } else {
+            flips::flip_fours(x)
+        }
+    }
+}
 
+// A width of two bits at most.
+pub trait Reverses: Width {
     ghost narrow: { Self.BITS ≤ 2 };
 }
 
@@ -41,13 +51,13 @@ impl Width for Bases {
     fn code_of(letter: u8) -> u8 {
         pack_char_lossy(letter)
     }
-}
 
-impl Reverses for Bases {
     fn flip_word(x: u64) -> u64 {
         flip_bases(x)
     }
+}
 
+impl Reverses for Bases {
     ghost narrow = { narrow_2 };
 }
 
@@ -64,12 +74,12 @@ impl Width for Flags {
     fn code_of(letter: u8) -> u8 {
         char_is_ambiguous(letter)
     }
-}
 
-impl Reverses for Flags {
     fn flip_word(x: u64) -> u64 {
         flip_flags(x)
     }
+}
 
+impl Reverses for Flags {
     ghost narrow = { narrow_1 };
 }

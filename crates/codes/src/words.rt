@@ -13,7 +13,7 @@ use crate::inner::flips::{flip_low, flip_low_pair};
 use crate::inner::packing::{pack, unpack_up_to};
 use crate::refusals::Refusal;
 use crate::units::Chars;
-use crate::widths::Reverses;
+use crate::widths::Width;
 
 // The word of 0 to 32 letters.
 pub fn pack_kmer_lossy(letters: &[u8]) -> Result<u64, Refusal>
@@ -64,7 +64,7 @@ pub fn unpack_kmer_u128(low: u64, high: u64, k: Chars, out: &mut [u8]) -> Result
 }
 
 // The len low characters of a word in reverse, bases complemented, len from 1 to as many as the word holds: 32 bases, 64 flags.
-pub fn rev_u64<W: Reverses>(word: u64, len: Chars) -> Result<u64, Refusal>
+pub fn rev_u64<W: Width>(word: u64, len: Chars) -> Result<u64, Refusal>
     ensures { says result ≡ answer (first (bad_word 1 (64 / W.BITS) len.0 ∷ [])) (flip W.BITS (complement W.BITS) len.0 word) 0 }
 {
     if bad_word(1, over_width::<W>(64), len) {
@@ -74,7 +74,7 @@ pub fn rev_u64<W: Reverses>(word: u64, len: Chars) -> Result<u64, Refusal>
 }
 
 // The same of a word of two halves, which holds 64 bases, 128 flags.
-pub fn rev_u128<W: Reverses>(low: u64, high: u64, len: Chars) -> Result<Pair, Refusal>
+pub fn rev_u128<W: Width>(low: u64, high: u64, len: Chars) -> Result<Pair, Refusal>
     ensures { word128_says result ≡
         answer (first (bad_word 1 (128 / W.BITS) len.0 ∷ [])) (halves (flip W.BITS (complement W.BITS) len.0 (high * 2 ^ 64 + low))) (halves 0) }
 {

@@ -52,11 +52,9 @@ use Rattle.codes.proofs.words.rev_u128.Kinds as rev128·kinds
 use Rattle.codes.proofs.words.rev_u128.Reads as rev128
 use Rattle.codes.specs.contracts.widths.Bases as bases
 use Rattle.codes.specs.contracts.widths.BasesWidth.TheImpl as bases·width
-use Rattle.codes.specs.contracts.widths.BasesReverses.TheImpl as bases·reverses
 use Rattle.codes.proofs.widths.Bases.TheLaws as bases·laws
 use Rattle.codes.specs.contracts.widths.Flags as flags
 use Rattle.codes.specs.contracts.widths.FlagsWidth.TheImpl as flags·width
-use Rattle.codes.specs.contracts.widths.FlagsReverses.TheImpl as flags·reverses
 use Rattle.codes.proofs.widths.Flags.TheLaws as flags·laws
 use Rattle.vectors.proofs.ThereAndBack.{Call}
 
@@ -179,10 +177,10 @@ pub word-ranges :
     → c.says ≡ first (bad_word 0 32 c.given.1.0.0 ∷ no_room (length c.given.1.1.0.now) c.given.1.0.0 ∷ []))
     × ((c : Call 1 unpack128·kinds.ps unpack128·kinds.r unpack128.Post)
     → c.says ≡ first (bad_word 0 64 c.given.1.1.0.0 ∷ no_room (length c.given.1.1.1.0.now) c.given.1.1.0.0 ∷ []))
-    × ((c : Call 1 (rev·kinds.ps bases.the_row bases·laws.the_row_laws) (rev·kinds.r bases.the_row bases·laws.the_row_laws) (rev.Post bases.the_row bases·laws.the_row_laws bases·reverses.ghosts bases·reverses.dict bases·width.ghosts bases·width.dict)) → (says c.says).no ≡ number_of (first (bad_word 1 32 c.given.1.0.0 ∷ [])))
-    × ((c : Call 1 (rev128·kinds.ps bases.the_row bases·laws.the_row_laws) (rev128·kinds.r bases.the_row bases·laws.the_row_laws) (rev128.Post bases.the_row bases·laws.the_row_laws bases·reverses.ghosts bases·reverses.dict bases·width.ghosts bases·width.dict)) → (word128_says c.says).no ≡ number_of (first (bad_word 1 64 c.given.1.1.0.0 ∷ [])))
-    × ((c : Call 1 (rev·kinds.ps flags.the_row flags·laws.the_row_laws) (rev·kinds.r flags.the_row flags·laws.the_row_laws) (rev.Post flags.the_row flags·laws.the_row_laws flags·reverses.ghosts flags·reverses.dict flags·width.ghosts flags·width.dict)) → (says c.says).no ≡ number_of (first (bad_word 1 64 c.given.1.0.0 ∷ [])))
-    × ((c : Call 1 (rev128·kinds.ps flags.the_row flags·laws.the_row_laws) (rev128·kinds.r flags.the_row flags·laws.the_row_laws) (rev128.Post flags.the_row flags·laws.the_row_laws flags·reverses.ghosts flags·reverses.dict flags·width.ghosts flags·width.dict)) → (word128_says c.says).no ≡ number_of (first (bad_word 1 128 c.given.1.1.0.0 ∷ [])))
+    × ((c : Call 1 (rev·kinds.ps bases.the_row bases·laws.the_row_laws) (rev·kinds.r bases.the_row bases·laws.the_row_laws) (rev.Post bases.the_row bases·laws.the_row_laws bases·width.ghosts bases·width.dict)) → (says c.says).no ≡ number_of (first (bad_word 1 32 c.given.1.0.0 ∷ [])))
+    × ((c : Call 1 (rev128·kinds.ps bases.the_row bases·laws.the_row_laws) (rev128·kinds.r bases.the_row bases·laws.the_row_laws) (rev128.Post bases.the_row bases·laws.the_row_laws bases·width.ghosts bases·width.dict)) → (word128_says c.says).no ≡ number_of (first (bad_word 1 64 c.given.1.1.0.0 ∷ [])))
+    × ((c : Call 1 (rev·kinds.ps flags.the_row flags·laws.the_row_laws) (rev·kinds.r flags.the_row flags·laws.the_row_laws) (rev.Post flags.the_row flags·laws.the_row_laws flags·width.ghosts flags·width.dict)) → (says c.says).no ≡ number_of (first (bad_word 1 64 c.given.1.0.0 ∷ [])))
+    × ((c : Call 1 (rev128·kinds.ps flags.the_row flags·laws.the_row_laws) (rev128·kinds.r flags.the_row flags·laws.the_row_laws) (rev128.Post flags.the_row flags·laws.the_row_laws flags·width.ghosts flags·width.dict)) → (word128_says c.says).no ≡ number_of (first (bad_word 1 128 c.given.1.1.0.0 ∷ [])))
 word-ranges = (
   λ c. ap (λ (a : _). a.no) c.meets,
   λ c. ap (λ (a : _). a.no) c.meets,

@@ -4,8 +4,7 @@
 use denote.Param.Laws.{Laws}
 use denote.RattleType.{RattleType}
 use mir.Syntax.{Dict}
-use Rattle.codes.specs.declared.widths.Reverses as Reversing
-use Rattle.codes.specs.declared.widths.Width
+use Rattle.codes.specs.declared.widths.Width.{Ghosts}
 use Rattle.std.specs.Prelude.{Ok}
 use borrow.Fn.Kinds.{Out, ParamKind, ResultKind, Dens, res_t, ended_of}
 use contract.Lifetimes.{Lfts}
@@ -356,9 +355,9 @@ twice {w} W p q f g sound h l eb eo ec h' =
     = ap (flipped w) (flipped-chars W p.bytes p.offset n p.out) ∙ flipped-twice w (chars w p.bytes p.offset n) (chars-fit w p.bytes p.offset n) in
     (d, (e, ap (λ (bs : List ℕ). chars w bs 0 n) last ∙ flipped-chars W mid 0 n q.out ∙ back))
 
--- at every width W that is reversed
-module _ (T : RattleType) (L : Laws T) (R : Reversing.Ghosts T.Denot) (E : Dict) (W : Width.Ghosts T.Denot) (D : Dict) where
-  abbrev pub revcomp : Call 3 (flip·kinds.ps T L) (flip·kinds.r T L) (flip.Post T L R E W D) → Reversal
+-- at every width W
+module _ (T : RattleType) (L : Laws T) (W : Ghosts T.Denot) (D : Dict) where
+  abbrev pub revcomp : Call 3 (flip·kinds.ps T L) (flip·kinds.r T L) (flip.Post T L W D) → Reversal
   revcomp c = record {
     bytes = c.given.0.now;
     offset = c.given.1.0.0;
@@ -368,5 +367,5 @@ module _ (T : RattleType) (L : Laws T) (R : Reversing.Ghosts T.Denot) (E : Dict)
     outcome = c.says;
   }
 
-  pub revcomp_twice : (p q : Call 3 (flip·kinds.ps T L) (flip·kinds.r T L) (flip.Post T L R E W D)) → Twice W.BITS (revcomp p) (revcomp q)
+  pub revcomp_twice : (p q : Call 3 (flip·kinds.ps T L) (flip·kinds.r T L) (flip.Post T L W D)) → Twice W.BITS (revcomp p) (revcomp q)
   revcomp_twice p q = twice W.divides (revcomp p) (revcomp q) p.meets q.meets

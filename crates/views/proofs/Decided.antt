@@ -17,8 +17,7 @@ use Rattle.codes.specs.Refusals.{Answer}
 use Rattle.codes.proofs.Permitted.{Decided}
 use Rattle.codes.proofs.RefusalLaws.{says-once, outcome_at, outcome_at_number}
 use Rattle.codes.proofs.AnswerLaws.{told, word128_told}
-use Rattle.codes.specs.declared.widths.Reverses
-use Rattle.codes.specs.declared.widths.Width
+use Rattle.codes.specs.declared.widths.Width.{Ghosts}
 use Rattle.fields.specs.Spans.{span_of}
 use Rattle.views.specs.Answers.{part_says}
 use Rattle.views.specs.Views.{Lent}
@@ -39,7 +38,7 @@ use Rattle.views.proofs.calls.revcomp_as_u128.Kinds as revcomp-as-u128·kinds
 use Rattle.views.proofs.calls.revcomp_as_u128.Reads as revcomp-as-u128
 
 -- at every width W
-module _ (T : RattleType) (L : Laws T) (W : Width.Ghosts T.Denot) (D : Dict) where
+module _ (T : RattleType) (L : Laws T) (W : Ghosts T.Denot) (D : Dict) where
   pub get_sliced_decided : Decided 2 (get-sliced·kinds.ps T L) (get-sliced·kinds.r T L) (get-sliced.Post T L W D)
   get_sliced_decided κs a x y s t p q = says-once told x y (p ∙ sym q)
 
@@ -49,12 +48,10 @@ module _ (T : RattleType) (L : Laws T) (W : Width.Ghosts T.Denot) (D : Dict) whe
   pub as_u128_decided : Decided 2 (as-u128·kinds.ps T L) (as-u128·kinds.r T L) (as-u128.Post T L W D)
   as_u128_decided κs a x y s t p q = says-once word128_told x y (p ∙ sym q)
 
--- at every width W that is reversed
-module _ (T : RattleType) (L : Laws T) (R : Reverses.Ghosts T.Denot) (E : Dict) (W : Width.Ghosts T.Denot) (D : Dict) where
-  pub revcomp_as_u64_decided : Decided 2 (revcomp-as-u64·kinds.ps T L) (revcomp-as-u64·kinds.r T L) (revcomp-as-u64.Post T L R E W D)
+  pub revcomp_as_u64_decided : Decided 2 (revcomp-as-u64·kinds.ps T L) (revcomp-as-u64·kinds.r T L) (revcomp-as-u64.Post T L W D)
   revcomp_as_u64_decided κs a x y s t p q = says-once told x y (p ∙ sym q)
 
-  pub revcomp_as_u128_decided : Decided 2 (revcomp-as-u128·kinds.ps T L) (revcomp-as-u128·kinds.r T L) (revcomp-as-u128.Post T L R E W D)
+  pub revcomp_as_u128_decided : Decided 2 (revcomp-as-u128·kinds.ps T L) (revcomp-as-u128·kinds.r T L) (revcomp-as-u128.Post T L W D)
   revcomp_as_u128_decided κs a x y s t p q = says-once word128_told x y (p ∙ sym q)
 
 -- Of a call over `View` the checker reads no contract; its clauses are read in a model, and there two results of which they hold are the same.
@@ -85,7 +82,7 @@ part-once p q e = record {
 pub part-decides : {p q : Part} {x : Answer Lent} → part_says p ≡ x → part_says q ≡ x → SamePart p q
 part-decides {p} {q} e f = part-once p q (e ∙ sym f)
 
-module _ (T : RattleType) (W : Width.Ghosts T.Denot) (D : Dict) {M : Type 1} {𝓤 : Ura M} (𝓛 : Logic 𝓤) (mem : Memory → SProp 𝓤) (run : Routine → Fun 𝓤) where
+module _ (T : RattleType) (W : Ghosts T.Denot) (D : Dict) {M : Type 1} {𝓤 : Ura M} (𝓛 : Logic 𝓤) (mem : Memory → SProp 𝓤) (run : Routine → Fun 𝓤) where
   pub new_decided : DecidedBy 𝓤 (new.ended T W D) (new.clauses T W D 𝓛 mem run) (λ κs. SamePart)
   new_decided κs a g x y s t = both 𝓤 part-decides
 

@@ -21,8 +21,7 @@ use Rattle.codes.specs.Answers.{says, says, word128_says}
 use Rattle.codes.specs.Refusals.{Answer}
 use Rattle.codes.proofs.Permitted.{Refuses, skip}
 use Rattle.codes.proofs.RefusalLaws.{no_of, values_of, refused_keeps}
-use Rattle.codes.specs.declared.widths.Reverses
-use Rattle.codes.specs.declared.widths.Width
+use Rattle.codes.specs.declared.widths.Width.{Ghosts}
 use Rattle.fields.specs.Fields.{got, as_u64, as_u128, flipped_as_u64, flipped_as_u128}
 use Rattle.views.specs.Answers.{part_says}
 use Rattle.views.specs.Views.{Lent, made, sliced, normalised, got_sliced}
@@ -46,7 +45,7 @@ abbrev pub at_front : Bor (List ℕ) → Lent
 at_front s = record { span = record { place = s.ref_ptr; bytes = [] }; offset = 0; len = 0 }
 
 -- at every width W
-module _ (T : RattleType) (L : Laws T) (W : Width.Ghosts T.Denot) (D : Dict) where
+module _ (T : RattleType) (L : Laws T) (W : Ghosts T.Denot) (D : Dict) where
   pub get_sliced_refused : Refuses 2 (get-sliced·kinds.ps T L) (get-sliced·kinds.r T L) (get-sliced.Post T L W D) (λ κs. says) (λ κs a. (0, skip 6 tt))
   unfolding got_sliced
   get_sliced_refused κs a x v p h = let n = rw p at h in rw (p, refused_keeps)
@@ -59,13 +58,11 @@ module _ (T : RattleType) (L : Laws T) (W : Width.Ghosts T.Denot) (D : Dict) whe
   unfolding as_u128
   as_u128_refused κs a x v p h = let n = rw p at h in rw (p, refused_keeps)
 
--- at every width W that is reversed
-module _ (T : RattleType) (L : Laws T) (R : Reverses.Ghosts T.Denot) (E : Dict) (W : Width.Ghosts T.Denot) (D : Dict) where
-  pub revcomp_as_u64_refused : Refuses 2 (revcomp-as-u64·kinds.ps T L) (revcomp-as-u64·kinds.r T L) (revcomp-as-u64.Post T L R E W D) (λ κs. says) (λ κs a. (0, skip 3 tt))
+  pub revcomp_as_u64_refused : Refuses 2 (revcomp-as-u64·kinds.ps T L) (revcomp-as-u64·kinds.r T L) (revcomp-as-u64.Post T L W D) (λ κs. says) (λ κs a. (0, skip 3 tt))
   unfolding flipped_as_u64
   revcomp_as_u64_refused κs a x v p h = let n = rw p at h in rw (p, refused_keeps)
 
-  pub revcomp_as_u128_refused : Refuses 2 (revcomp-as-u128·kinds.ps T L) (revcomp-as-u128·kinds.r T L) (revcomp-as-u128.Post T L R E W D) (λ κs. word128_says) (λ κs a. ((0, 0), skip 3 tt))
+  pub revcomp_as_u128_refused : Refuses 2 (revcomp-as-u128·kinds.ps T L) (revcomp-as-u128·kinds.r T L) (revcomp-as-u128.Post T L W D) (λ κs. word128_says) (λ κs a. ((0, 0), skip 3 tt))
   unfolding flipped_as_u128
   revcomp_as_u128_refused κs a x v p h = let n = rw p at h in rw (p, refused_keeps)
 
@@ -80,7 +77,7 @@ module _ {M : Type 1} (𝓤 : Ura M) where
   pub given : {P Q : Type 0} → (P → Q) → ent 𝓤 (fact 𝓤 P) (fact 𝓤 Q)
   given {P} {Q} f = fact_mono 𝓤 P Q f
 
-module _ (T : RattleType) (W : Width.Ghosts T.Denot) (D : Dict) {M : Type 1} {𝓤 : Ura M} (𝓛 : Logic 𝓤) (mem : Memory → SProp 𝓤) (run : Routine → Fun 𝓤) where
+module _ (T : RattleType) (W : Ghosts T.Denot) (D : Dict) {M : Type 1} {𝓤 : Ura M} (𝓛 : Logic 𝓤) (mem : Memory → SProp 𝓤) (run : Routine → Fun 𝓤) where
   pub new_refused : RefusesBy 𝓤 (new.ended T W D) (new.clauses T W D 𝓛 mem run) (λ κs. part_says) (λ κs a. at_front a.0)
   unfolding made
   new_refused κs a g x s h = given 𝓤 (λ p. let n = rw (no_of p) at h in simp (refused_keeps, zero-add) at (values_of p))

@@ -8,7 +8,7 @@ use crate::view::View;
 use codes::inner::bits::Pair;
 use codes::refusals::Refusal;
 use codes::units::Chars;
-use codes::widths::{Reverses, Width};
+use codes::widths::Width;
 use fields::inner::parts::slice_outcome;
 use fields::inner::words;
 
@@ -45,18 +45,14 @@ pub fn as_u128<W: Width>(bytes: &[u8], offset: Chars, len: Chars) -> Result<Pair
 }
 
 // The view reversed as a word, bases complemented; 1 to 32 bases, or 1 to 64 flags.
-pub fn revcomp_as_u64<W: Reverses>(bytes: &[u8], offset: Chars, len: Chars) -> Result<u64, Refusal>
+pub fn revcomp_as_u64<W: Width>(bytes: &[u8], offset: Chars, len: Chars) -> Result<u64, Refusal>
     ensures { says result ≡ flipped_as_u64 W.BITS bytes.now offset.0 len.0 }
 {
     words::flipped_as_u64::<W>(bytes, offset, len)
 }
 
 // The view reversed as a word of two halves, bases complemented; 1 to 64 bases, or 1 to 128 flags.
-pub fn revcomp_as_u128<W: Reverses>(
-    bytes: &[u8],
-    offset: Chars,
-    len: Chars,
-) -> Result<Pair, Refusal>
+pub fn revcomp_as_u128<W: Width>(bytes: &[u8], offset: Chars, len: Chars) -> Result<Pair, Refusal>
     ensures { word128_says result ≡ flipped_as_u128 W.BITS bytes.now offset.0 len.0 }
 {
     words::flipped_as_u128::<W>(bytes, offset, len)

@@ -4,17 +4,16 @@ use mathlib.Core.Path.{sym, ◌∙◌}
 use denote.Param.Laws.{Laws}
 use denote.RattleType.{RattleType}
 use mir.Syntax.{Dict}
-use Rattle.codes.specs.declared.widths.Reverses
-use Rattle.codes.specs.declared.widths.Width
+use Rattle.codes.specs.declared.widths.Width.{Ghosts}
 use Rattle.codes.proofs.Permitted.{Once, skip}
 use Rattle.writes.proofs.calls.to_revcomp.Kinds as to-revcomp·kinds
 use Rattle.writes.proofs.calls.to_revcomp.Reads as to-revcomp
 use Rattle.writes.proofs.calls.unpack.Kinds as unpack·kinds
 use Rattle.writes.proofs.calls.unpack.Reads as unpack
 
--- at every width W that is reversed
-module _ (T : RattleType) (L : Laws T) (R : Reverses.Ghosts T.Denot) (E : Dict) (W : Width.Ghosts T.Denot) (D : Dict) where
-  pub to_revcomp_decided : Once 3 (to-revcomp·kinds.ps T L) (to-revcomp·kinds.r T L) (to-revcomp.Post T L R E W D)
+-- at every width W
+module _ (T : RattleType) (L : Laws T) (W : Ghosts T.Denot) (D : Dict) where
+  pub to_revcomp_decided : Once 3 (to-revcomp·kinds.ps T L) (to-revcomp·kinds.r T L) (to-revcomp.Post T L W D)
   to_revcomp_decided κs a x y v w p q =
       let says = p.0 ∙ sym q.0 in
       let out = (rw p.0 at p.1) ∙ sym (rw q.0 at q.1) in

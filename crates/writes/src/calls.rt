@@ -7,7 +7,7 @@ use crate::inner::letters::write_letters;
 use crate::inner::reverse::write_flipped;
 use codes::refusals::Refusal;
 use codes::units::{Chars, TRAILING};
-use codes::widths::{Bases, Reverses};
+use codes::widths::{Bases, Width};
 use fields::inner::parts::view_outcome;
 
 // Writes the capital letters of a view of bases to the front of a buffer.
@@ -25,7 +25,7 @@ pub fn unpack(bytes: &[u8], offset: Chars, len: Chars, out: &mut [u8]) -> Result
 }
 
 // The view reversed, bases complemented, written to `out`: ceil(length / C8) bytes, then 48 zeros.
-pub fn to_revcomp<W: Reverses>(
+pub fn to_revcomp<W: Width>(
     bytes: &[u8],
     offset: Chars,
     len: Chars,

@@ -2,7 +2,7 @@
 use crate::inner::numbers::chars;
 use crate::inner::print;
 use codes::units::Chars;
-use codes::widths::{Bases, Flags, Reverses};
+use codes::widths::{Bases, Flags, Width};
 use fields::inner::parts::get_at;
 use std::io;
 use std::io::Write;
@@ -61,7 +61,7 @@ fn read<W: Write>(to: &mut W, call: u64, line: &[u64; 512], bytes: &[u8]) -> io:
     }
 }
 
-fn at<W: Reverses, T: Write>(
+fn at<W: Width, T: Write>(
     to: &mut T,
     call: u64,
     line: &[u64; 512],

@@ -5,16 +5,23 @@ ghost use Rattle.codes.specs.Codes.{complement};
 ghost use Rattle.codes.specs.Words.{flip, same};
 
 use crate::inner::bits::{Pair, shr_pair};
-use crate::widths::Reverses;
+use crate::widths::Width;
+
+// The 16 fours of bits of x in reverse.
+pub(crate) fn flip_fours(x: u64) -> u64
+    ensures { result ≡ flip 4 same 16 x }
+{
+    let a = ((x >> 32) & 0x0000_0000_ffff_ffff) | ((x & 0x0000_0000_ffff_ffff) << 32);
+    let b = ((a >> 16) & 0x0000_ffff_0000_ffff) | ((a & 0x0000_ffff_0000_ffff) << 16);
+    let c = ((b >> 8) & 0x00ff_00ff_00ff_00ff) | ((b & 0x00ff_00ff_00ff_00ff) << 8);
+    ((c >> 4) & 0x0f0f_0f0f_0f0f_0f0f) | ((c & 0x0f0f_0f0f_0f0f_0f0f) << 4)
+}
 
 // The 32 pairs of bits of x in reverse.
 fn flip_pairs(x: u64) -> u64
     ensures { result ≡ flip 2 same 32 x }
 {
-    let a = ((x >> 32) & 0x0000_0000_ffff_ffff) | ((x & 0x0000_0000_ffff_ffff) << 32);
-    let b = ((a >> 16) & 0x0000_ffff_0000_ffff) | ((a & 0x0000_ffff_0000_ffff) << 16);
-    let c = ((b >> 8) & 0x00ff_00ff_00ff_00ff) | ((b & 0x00ff_00ff_00ff_00ff) << 8);
-    let d = ((c >> 4) & 0x0f0f_0f0f_0f0f_0f0f) | ((c & 0x0f0f_0f0f_0f0f_0f0f) << 4);
+    let d = flip_fours(x);
     ((d >> 2) & 0x3333_3333_3333_3333) | ((d & 0x3333_3333_3333_3333) << 2)
 }
 
@@ -34,7 +41,7 @@ pub(crate) fn flip_flags(x: u64) -> u64
 }
 
 // The n low characters of x in reverse, bases complemented.
-pub fn flip_low<W: Reverses>(x: u64, n: usize) -> u64
+pub fn flip_low<W: Width>(x: u64, n: usize) -> u64
     requires { (1 ≤ n) × (W.BITS * n ≤ 64) }
     ensures { result ≡ flip W.BITS (complement W.BITS) n x }
 {
@@ -42,7 +49,7 @@ pub fn flip_low<W: Reverses>(x: u64, n: usize) -> u64
 }
 
 // The n low characters of a word of two halves in reverse: each half is flipped, and they change places.
-pub fn flip_low_pair<W: Reverses>(low: u64, high: u64, n: usize) -> Pair
+pub fn flip_low_pair<W: Width>(low: u64, high: u64, n: usize) -> Pair
     requires { (1 ≤ n) × (W.BITS * n ≤ 128) }
     ensures { result.high * 2 ^ 64 + result.low ≡ flip W.BITS (complement W.BITS) n (high * 2 ^ 64 + low) }
 {

@@ -7,7 +7,7 @@ ghost use Rattle.views.specs.Views.{got_sliced};
 ghost use Rattle.writes.specs.Writes.{unpack_outcome, unpacked_over, flip_outcome, flipped_over};
 
 use codes::units::Chars;
-use codes::widths::{Reverses, Width};
+use codes::widths::Width;
 use fields::inner::parts::get_at;
 use given::inner::give;
 use views::calls;
@@ -57,7 +57,7 @@ pub fn as_u64<W: Width>(bytes: &[u8], offset: usize, len: usize, word: &mut u64)
     )
 }
 
-pub fn revcomp_as_u64<W: Reverses>(bytes: &[u8], offset: usize, len: usize, word: &mut u64) -> u32
+pub fn revcomp_as_u64<W: Width>(bytes: &[u8], offset: usize, len: usize, word: &mut u64) -> u32
     ensures { said result word.new ≡ flipped_as_u64 W.BITS bytes.now offset len }
 {
     give::number(
@@ -83,7 +83,7 @@ pub fn as_u128<W: Width>(
     )
 }
 
-pub fn revcomp_as_u128<W: Reverses>(
+pub fn revcomp_as_u128<W: Width>(
     bytes: &[u8],
     offset: usize,
     len: usize,
@@ -99,7 +99,7 @@ pub fn revcomp_as_u128<W: Reverses>(
     )
 }
 
-pub fn to_revcomp<W: Reverses>(bytes: &[u8], offset: usize, len: usize, out: &mut [u8]) -> u32
+pub fn to_revcomp<W: Width>(bytes: &[u8], offset: usize, len: usize, out: &mut [u8]) -> u32
     ensures number { result ≡ number_of (flip_outcome W.BITS bytes.now offset len out.old) }
     ensures bytes { out.new ≡ if_done (flip_outcome W.BITS bytes.now offset len out.old)
         (flipped_over W.BITS bytes.now offset len out.old) out.old }

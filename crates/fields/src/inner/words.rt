@@ -15,7 +15,7 @@ use codes::inner::counts::over_width;
 use codes::inner::flips::{flip_low, flip_low_pair};
 use codes::refusals::Refusal;
 use codes::units::Chars;
-use codes::widths::{Reverses, Width};
+use codes::widths::Width;
 
 // The refusals of a view's word, whose length runs from `least` to what `bits` hold.
 fn word_outcome<W: Width>(
@@ -68,7 +68,7 @@ pub fn as_u128<W: Width>(bytes: &[u8], offset: Chars, len: Chars) -> Result<Pair
     Ok(view_pair::<W>(bytes, offset, len))
 }
 
-pub fn flipped_as_u64<W: Reverses>(bytes: &[u8], offset: Chars, len: Chars) -> Result<u64, Refusal>
+pub fn flipped_as_u64<W: Width>(bytes: &[u8], offset: Chars, len: Chars) -> Result<u64, Refusal>
     ensures { says result ≡ flipped_as_u64 W.BITS bytes.now offset.0 len.0 }
 {
     word_outcome::<W>(bytes, offset, len, 1, 64)?;
@@ -76,11 +76,7 @@ pub fn flipped_as_u64<W: Reverses>(bytes: &[u8], offset: Chars, len: Chars) -> R
     Ok(flip_low::<W>(x, len.count()))
 }
 
-pub fn flipped_as_u128<W: Reverses>(
-    bytes: &[u8],
-    offset: Chars,
-    len: Chars,
-) -> Result<Pair, Refusal>
+pub fn flipped_as_u128<W: Width>(bytes: &[u8], offset: Chars, len: Chars) -> Result<Pair, Refusal>
     ensures { word128_says result ≡ flipped_as_u128 W.BITS bytes.now offset.0 len.0 }
 {
     word_outcome::<W>(bytes, offset, len, 1, 128)?;

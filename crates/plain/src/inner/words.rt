@@ -7,7 +7,7 @@ ghost use Rattle.codes.specs.Words.{word, chars_of, flip};
 ghost use Rattle.given.specs.Face.{said};
 
 use codes::units::Chars;
-use codes::widths::Reverses;
+use codes::widths::Width;
 use codes::words;
 use given::inner::give;
 
@@ -41,13 +41,13 @@ pub fn unpack_kmer_u128(low: u64, high: u64, k: usize, out: &mut [u8]) -> u32
     give::no(words::unpack_kmer_u128(low, high, Chars::new(k), out))
 }
 
-pub fn rev_u64<W: Reverses>(word: u64, len: usize, to: &mut u64) -> u32
+pub fn rev_u64<W: Width>(word: u64, len: usize, to: &mut u64) -> u32
     ensures { said result to.new ≡ answer (first (bad_word 1 (64 / W.BITS) len ∷ [])) (flip W.BITS (complement W.BITS) len word) 0 }
 {
     give::number(words::rev_u64::<W>(word, Chars::new(len)), 0, to)
 }
 
-pub fn rev_u128<W: Reverses>(
+pub fn rev_u128<W: Width>(
     low: u64,
     high: u64,
     len: usize,

@@ -8,15 +8,15 @@ ghost use Rattle.codes.specs.Words.{word};
 ghost use Rattle.writes.specs.Flips.{flipped_byte, looked_up};
 ghost use Rattle.writes.specs.Writes.{flipped_over};
 
-use crate::inner::tables::{base_flips, flag_flips};
+use crate::inner::tables::{base_flips, flag_flips, four_flips};
 use codes::inner::tracks::zero_run;
 use codes::units::TRAILING;
-use codes::widths::Reverses;
+use codes::widths::Width;
 use fields::inner::loads::{peek, word_at};
 use fields::inner::writes::store64;
 
 // The whole words of the `bits` bits from bit p on, reversed.
-fn flip_words<W: Reverses>(bytes: &[u8], p: usize, bits: usize, out: &mut [u8])
+fn flip_words<W: Width>(bytes: &[u8], p: usize, bits: usize, out: &mut [u8])
     requires bits_value { W.BITS * (bits / W.BITS) ≡ bits }
     requires bits_bound { (p + bits < 2 ^ 32) × (p + bits + 384 ≤ 8 * length bytes.now) × (bits ≤ 8 * length out.old) }
     ensures { Made (flipped_byte W.BITS (word 8 bytes.now / 2 ^ p) bits) 0 (bits / 64 * 8) out.old out.new }
@@ -65,7 +65,7 @@ fn flip_bytes(table: &[u8; 256], bytes: &[u8], p: usize, bits: usize, from: usiz
 
 // What is left below a whole word, in bytes. The compiled code makes a table anew wherever it is asked for: so once for all bytes, and only
 // where there are any.
-fn flip_rest<W: Reverses>(bytes: &[u8], p: usize, bits: usize, out: &mut [u8])
+fn flip_rest<W: Width>(bytes: &[u8], p: usize, bits: usize, out: &mut [u8])
     requires bits_value { W.BITS * (bits / W.BITS) ≡ bits }
     requires bits_bound { (p + bits < 2 ^ 32) × (p + bits + 384 ≤ 8 * length bytes.now) × (bits ≤ 8 * length out.old) }
     ensures { Made (flipped_byte W.BITS (word 8 bytes.now / 2 ^ p) bits) (bits / 64 * 8) ((bits + 7) / 8)
@@ -75,9 +75,12 @@ fn flip_rest<W: Reverses>(bytes: &[u8], p: usize, bits: usize, out: &mut [u8])
         return;
     }
     let from = bits / 64 * 8;
-    // Which of the two is known when this is compiled.
+    // Which of the three is known when this is compiled.
     if W::BITS == 2 {
         let table = base_flips();
+        flip_bytes(&table, bytes, p, bits, from, out);
+    } else if W::BITS == 4 {
+        let table = four_flips();
         flip_bytes(&table, bytes, p, bits, from, out);
     } else {
         let table = flag_flips();
@@ -86,7 +89,7 @@ fn flip_rest<W: Reverses>(bytes: &[u8], p: usize, bits: usize, out: &mut [u8])
 }
 
 // The reversed view, and 48 zeros.
-pub(crate) fn write_flipped<W: Reverses>(
+pub(crate) fn write_flipped<W: Width>(
     bytes: &[u8],
     o: usize,
     len: usize,

@@ -1,17 +1,9 @@
--- Five stages of the network, each half as wide as the one before. Assumes nothing.
+-- The network's fifth stage. Assumes nothing.
 use mathlib.Core.Path.{refl}
-use Prim.Native.Nat.{ℕ}
 use lib.Dec.{lit<}
-use Rattle.codes.proofs.Net.{mask, stage, whole}
+use Rattle.codes.proofs.Net.{mask, stage}
 use Rattle.codes.proofs.inner.flips.flip_pairs.Goals as goal
 
 pub returns : goal.returns
 unfolding mask
-returns c =
-    let x : ℕ = c.args.x in
-    stage 64 2 16 0x3333_3333_3333_3333 x _ refl (lit< tt)
-    (stage 64 4 8 0x0f0f_0f0f_0f0f_0f0f x _ refl (lit< tt)
-    (stage 64 8 4 0x00ff_00ff_00ff_00ff x _ refl (lit< tt)
-    (stage 64 16 2 0x0000_ffff_0000_ffff x _ refl (lit< tt)
-    (stage 64 32 1 0xffff_ffff x _ refl (lit< tt)
-    (whole 64 x c.ranges.x.fits)))))
+returns c = stage 64 2 16 0x3333_3333_3333_3333 c.args.x _ refl (lit< tt) c.flip_fours-d.ensures
