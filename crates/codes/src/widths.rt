@@ -19,7 +19,7 @@ pub trait Width {
     fn code_of(letter: u8) -> u8
         ensures { result ≡ code BITS letter };
 
-    // All characters of x in reverse, bases complemented.
+    // All characters of x in reverse, bases complemented. The body is for a type that has none of its own; its width is known when it is compiled.
     fn flip_word(x: u64) -> u64
         ensures { result ≡ flip BITS (complement BITS) (64 / BITS) x }
     {
@@ -33,7 +33,7 @@ pub trait Width {
     }
 }
 
-// A width of two bits at most.
+// A width of two bits at most, for callers that have to know it.
 pub trait Reverses: Width {
     ghost narrow: { Self.BITS ≤ 2 };
 }

@@ -8,7 +8,7 @@ ghost use Rattle.codes.specs.Words.{word};
 ghost use Rattle.writes.specs.Flips.{flipped_byte, looked_up};
 ghost use Rattle.writes.specs.Writes.{flipped_over};
 
-use crate::inner::tables::{base_flips, flag_flips, four_flips};
+use crate::inner::tables::flips_of;
 use codes::inner::tracks::zero_run;
 use codes::units::TRAILING;
 use codes::widths::Width;
@@ -75,17 +75,8 @@ fn flip_rest<W: Width>(bytes: &[u8], p: usize, bits: usize, out: &mut [u8])
         return;
     }
     let from = bits / 64 * 8;
-    // Which of the three is known when this is compiled.
-    if W::BITS == 2 {
-        let table = base_flips();
-        flip_bytes(&table, bytes, p, bits, from, out);
-    } else if W::BITS == 4 {
-        let table = four_flips();
-        flip_bytes(&table, bytes, p, bits, from, out);
-    } else {
-        let table = flag_flips();
-        flip_bytes(&table, bytes, p, bits, from, out);
-    }
+    let table = flips_of::<W>();
+    flip_bytes(&table, bytes, p, bits, from, out);
 }
 
 // The reversed view, and 48 zeros.

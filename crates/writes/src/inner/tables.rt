@@ -2,6 +2,8 @@
 ghost use Rattle.std.specs.Prelude.{◌≡◌};
 ghost use Rattle.writes.specs.Flips.{flips};
 
+use codes::widths::Width;
+
 // Pairs of bits in reverse, each xor 2.
 const BASES: [u8; 256] = *b"\
     \xaa\xea\x2a\x6a\xba\xfa\x3a\x7a\x8a\xca\x0a\x4a\x9a\xda\x1a\x5a\
@@ -75,4 +77,17 @@ pub(crate) fn four_flips() -> [u8; 256]
     ensures { result ≡ flips 4 }
 {
     FOURS
+}
+
+// The table of a width. Which of the three that is, is known when this is compiled.
+pub(crate) fn flips_of<W: Width>() -> [u8; 256]
+    ensures { result ≡ flips W.BITS }
+{
+    if W::BITS == 2 {
+        base_flips()
+    } else if W::BITS == 4 {
+        four_flips()
+    } else {
+        flag_flips()
+    }
 }
